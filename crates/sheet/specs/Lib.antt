@@ -1,0 +1,4 @@
+pub mod Contents
+pub mod Edits
+pub mod Laws
+pub mod Undoing
