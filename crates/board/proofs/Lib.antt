@@ -1,0 +1,3 @@
+mod Latest
+mod Remembering
+mod Telling

@@ -1,0 +1,16 @@
+use mathlib.Core.Path.{_≡_}
+use lib.ListN.{length}
+use Rattle.sheet.specs.Contents.{contents}
+use Rattle.board.specs.Noted.{noted}
+use Rattle.board.specs.Past.{first-sheet}
+use Rattle.board.specs.Views.{unwound}
+use Rattle.board.proofs.trial.Trial.revert.Given as given
+
+-- the first sheet of the trial is where the entries that are left lead to
+abbrev pub Inv-loop-undo : given.InvT-loop-undo
+Inv-loop-undo l =
+    first-sheet (contents (l .sheet)) (unwound (noted (l .journal)) (contents (l .sheet)))
+    ≡ first-sheet (contents (l .entry .sheet)) (unwound (noted (l .entry .journal)) (contents (l .entry .sheet)))
+
+abbrev pub μ-loop-undo : given.MeasureT-loop-undo
+μ-loop-undo l = length (noted (l .journal))
