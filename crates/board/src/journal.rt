@@ -8,7 +8,7 @@ mod ops;
 
 // A journal: what undoes each remembered edit, at most 64, in the order in which they were made.
 #[derive(Drop)]
-pub struct Journal {
+pub(crate) struct Journal {
     entries: [Undo; 64],
     count: usize,
     ghost places: { length entries ≡ 64 },

@@ -8,6 +8,8 @@ mod trial;
 
 pub use log::Board;
 pub use log::Call;
+pub use log::CallDebug;
+pub use log::CallPartialEq;
 pub use log::Reply;
 pub use settled::Settled;
 pub use trial::Trial;

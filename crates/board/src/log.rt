@@ -11,10 +11,13 @@ use crate::trial::Trial;
 use refusal::Refusal;
 use sheet::Case;
 use sheet::Edit;
+use sheet::EditDebug;
+use sheet::EditEq;
+use sheet::EditPartialEq;
 use sheet::SlotPrice;
 
 // One call of a past, with its arguments as a caller wrote them.
-#[derive(Clone, Copy)]
+#[derive(Clone, Copy, PartialEq, Eq, Debug)]
 pub enum Call {
     Make(Edit),
     // the case in a row

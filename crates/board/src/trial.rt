@@ -88,10 +88,10 @@ impl Trial { // Puts a case with this need and allowed set into an empty row.
         ensures left { λ _. ⌜ trial-view (now (self .exit)) ≡ called Takes-back (trial-view (now (self .entry))) ⌝ }
         ensures past { λ _. ⌜ Carries-on Takes-back (trial-view (now (self .entry))) (trial-view (now (self .exit))) ⌝ }
     {
-        let Some(undo) = self.journal.pop() else {
+        let Some(latest) = self.journal.pop() else {
             return Err(Refusal::NothingToTakeBack);
         };
-        self.sheet.undo(undo);
+        self.sheet.undo(latest);
         Ok(())
     }
 
@@ -113,8 +113,8 @@ impl Trial { // Puts a case with this need and allowed set into an empty row.
             mut sheet,
             mut journal,
         } = self;
-        while let Some(undo) = journal.pop() {
-            sheet.undo(undo);
+        while let Some(entry) = journal.pop() {
+            sheet.undo(entry);
         }
         Settled { sheet }
     }

@@ -1,5 +1,5 @@
 // The five edits of a sheet, with their arguments as a caller wrote them.
-#[derive(Clone, Copy)]
+#[derive(Clone, Copy, PartialEq, Eq, Debug)]
 pub enum Edit {
     // put a case with this need and allowed set into an empty row
     Enter(usize, u64, u64),

@@ -25,6 +25,9 @@ mod undo;
 
 pub use case::Case;
 pub use edit::Edit;
+pub use edit::EditDebug;
+pub use edit::EditEq;
+pub use edit::EditPartialEq;
 pub use slot_price::SlotPrice;
 pub use undo::Undo;
 
@@ -50,7 +53,7 @@ impl Sheet {
     pub fn case(&self, row: usize) -> Option<Case>
         ensures { λ r. ⌜ mapped entry r ≡ case-in (contents (now (self .entry))) row ⌝ }
     {
-        if row > 15 {
+        if row >= 16 {
             return None;
         }
         self.rows[row]
@@ -60,7 +63,7 @@ impl Sheet {
     pub fn price_of(&self, slot: usize) -> Option<SlotPrice>
         ensures { λ r. ⌜ mapped amount r ≡ price-in (contents (now (self .entry))) slot ⌝ }
     {
-        if slot > 63 {
+        if slot >= 64 {
             return None;
         }
         self.slots[slot]

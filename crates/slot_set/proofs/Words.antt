@@ -87,20 +87,3 @@ has-some (suc k) w h p = ⊎-elim
     let r = has-some k (w / 2) (half-below w k h) (omega arith) in
     (suc (r .0), omega (arith, r .1), has-suc w (r .0) ∙ r .2))
     (cases-eq (w % 2) 1)
-
-bit-eq : (a b : ℕ) → a < 2 → b < 2 → eqb a 1 ≡ eqb b 1 → a ≡ b
-bit-eq a b x y e = ⊎-elim
-    (λ p. p ∙ sym (eqb-true b 1 (sym e ∙ eq-eqb a 1 p)))
-    (λ n. let m = eqb-false b 1 (sym e ∙ ne-eqb a 1 n) in
-    ⊎-elim (λ q. absurd (m q)) (λ q. omega arith) (cases-eq b 1))
-    (cases-eq a 1)
-
--- two words of k bits with the same slots are the same word
-pub same-word : (k a b : ℕ) → a < 2 ^ k → b < 2 ^ k → ((s : ℕ) → s < k → has a s ≡ has b s) → a ≡ b
-same-word zero a b x y h = omega arith
-same-word (suc k) a b x y h =
-    let low : a % 2 ≡ b % 2 = bit-eq (a % 2) (b % 2) (mod-below a 2 (omega arith)) (mod-below b 2 (omega arith)) (sym (has-zero a) ∙ h 0 (omega arith) ∙ has-zero b) in
-    let high : a / 2 ≡ b / 2 = same-word k (a / 2) (b / 2) (half-below a k x) (half-below b k y) (λ s l. sym (has-suc a s) ∙ h (suc s) (omega arith) ∙ has-suc b s) in
-    let da = div-add-mod' a 2 in
-    let db = div-add-mod' b 2 in
-    omega arith

@@ -15,7 +15,3 @@ Nobody word = (s : ℕ) → has word s ≡ false
 -- some slot is in the set
 abbrev pub Somebody : ℕ → Type 0
 Somebody word = (s : ℕ) × (s < 64) × (has word s ≡ true)
-
--- two sets have the same slots
-abbrev pub Same-slots : ℕ → ℕ → Type 0
-Same-slots a b = (s : ℕ) → s < 64 → has a s ≡ has b s

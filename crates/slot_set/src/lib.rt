@@ -2,10 +2,10 @@
 // a set is a 64-bit word in which slot s weighs 2^s.
 ghost use mathlib.Core.Path.{_≡_};
 ghost use mathlib.Core.Bool.{true, false, _&&_, _||_};
-ghost use Prim.Native.Nat.{ℕ, _^_, _<_};
+ghost use Prim.Native.Nat.{ℕ};
 ghost use lib.Bits.{bitAnd};
 ghost use lib.Dec.{eqb, ltb};
-ghost use Rattle.slot_set.specs.Sets.{has, Nobody, Somebody, Same-slots};
+ghost use Rattle.slot_set.specs.Sets.{has, Nobody, Somebody};
 
 #[derive(Clone, Copy, PartialEq, Eq, Debug)]
 pub struct SlotSet {
@@ -13,10 +13,8 @@ pub struct SlotSet {
 }
 
 impl SlotSet {
-    // The set of a word, and the only one with its slots.
     pub fn from_word(word: u64) -> SlotSet
-        ensures word { λ r. ⌜ r .word ≡ word ⌝ }
-        ensures only { λ r. ⌜ ((other : ℕ) → other < 2 ^ 64 → Same-slots other (r .word) → other ≡ r .word) ⌝ }
+        ensures { λ r. ⌜ r .word ≡ word ⌝ }
     {
         SlotSet { word }
     }
@@ -31,27 +29,22 @@ impl SlotSet {
     pub fn contains(&self, slot: usize) -> bool
         ensures { λ r. ⌜ r ≡ has (now (self .entry) .word) slot ⌝ }
     {
-        let word = self.word;
-        slot < 64 && (word >> slot) & 1 == 1
+        word_has(self.word, slot)
     }
 
     pub fn is_empty(&self) -> bool
         ensures word { λ r. ⌜ r ≡ eqb (now (self .entry) .word) 0 ⌝ }
         ensures slots { λ r. ⌜ (r ≡ true → Nobody (now (self .entry) .word)) × (r ≡ false → Somebody (now (self .entry) .word)) ⌝ }
     {
-        self.word == 0
+        is_none(self.word)
     }
 
     // The set with one slot more. A slot above 63 is in no set, and adds nothing.
     pub fn with(self, slot: usize) -> SlotSet
-        ensures slots { λ r. ⌜ ((s : ℕ) → has (r .word) s ≡ (has (self .word) s || (ltb slot 64 && eqb s slot))) ⌝ }
+        ensures { λ r. ⌜ ((s : ℕ) → has (r .word) s ≡ (has (self .word) s || (ltb slot 64 && eqb s slot))) ⌝ }
     {
-        if slot < 64 {
-            SlotSet {
-                word: self.word | (1 << slot),
-            }
-        } else {
-            self
+        SlotSet {
+            word: word_with(self.word, slot),
         }
     }
 
@@ -61,7 +54,38 @@ impl SlotSet {
         ensures slots { λ r. ⌜ ((s : ℕ) → has (r .word) s ≡ (has (self .word) s && has (other .word) s)) ⌝ }
     {
         SlotSet {
-            word: self.word & other.word,
+            word: both(self.word, other.word),
         }
     }
+}
+
+// What the operations do to words.
+
+fn word_has(word: u64, slot: usize) -> bool
+    ensures { λ r. ⌜ r ≡ has word slot ⌝ }
+{
+    slot < 64 && (word >> slot) & 1 == 1
+}
+
+fn is_none(word: u64) -> bool
+    ensures word { λ r. ⌜ r ≡ eqb word 0 ⌝ }
+    ensures slots { λ r. ⌜ (r ≡ true → Nobody word) × (r ≡ false → Somebody word) ⌝ }
+{
+    word == 0
+}
+
+fn word_with(word: u64, slot: usize) -> u64
+    ensures { λ r. ⌜ ((s : ℕ) → has r s ≡ (has word s || (ltb slot 64 && eqb s slot))) ⌝ }
+{
+    if slot >= 64 {
+        return word;
+    }
+    word | (1 << slot)
+}
+
+fn both(a: u64, b: u64) -> u64
+    ensures word { λ r. ⌜ r ≡ bitAnd a b ⌝ }
+    ensures slots { λ r. ⌜ ((s : ℕ) → has r s ≡ (has a s && has b s)) ⌝ }
+{
+    a & b
 }

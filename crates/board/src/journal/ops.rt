@@ -9,7 +9,7 @@ use crate::journal::Journal;
 use sheet::Undo;
 
 impl Journal {
-    pub fn new() -> Journal
+    pub(crate) fn new() -> Journal
         ensures { λ r. ⌜ noted r ≡ [] ⌝ }
     {
         Journal {
@@ -19,7 +19,7 @@ impl Journal {
     }
 
     // Notes one entry more, and says whether there was room for it.
-    pub fn push(&mut self, entry: Undo) -> bool
+    pub(crate) fn push(&mut self, entry: Undo) -> bool
         ensures room { λ r. ⌜ r ≡ ltb (length (noted (now (self .entry)))) 64 ⌝ }
         ensures noted { λ r. ⌜ noted (now (self .exit)) ≡ cond r (entry ∷ noted (now (self .entry))) (noted (now (self .entry))) ⌝ }
     {
@@ -33,7 +33,7 @@ impl Journal {
     }
 
     // Gives back the latest entry, and forgets it.
-    pub fn pop(&mut self) -> Option<Undo>
+    pub(crate) fn pop(&mut self) -> Option<Undo>
         ensures { λ r. ⌜ elim r [ None ↦ (noted (now (self .entry)) ≡ []) × (noted (now (self .exit)) ≡ []) | Some u ↦ noted (now (self .entry)) ≡ u ∷ noted (now (self .exit)) ] ⌝ }
     {
         if self.count == 0 {

@@ -45,7 +45,10 @@ impl Case {
         if allowed == 0 {
             return Err(Refusal::NoSlots);
         }
-        self.allowed = SlotSet::from_word(allowed);
+        *self = Case {
+            need: self.need,
+            allowed: SlotSet::from_word(allowed),
+        };
         Ok(())
     }
 }

@@ -19,7 +19,7 @@ loop-slot-again c s =
     elim (c .if-is-some .came) [
       | then-is-some w ↦
           ap (λ o. has (o .word) s) (w .open-is)
-          ∙ w .with-open .ensures .slots s
+          ∙ w .with-open .ensures s
           ∙ ap (λ b. b || (ltb i 64 && eqb s i)) below
           ∙ ap (λ b. (ltb s i && f s) || (b && eqb s i)) (lt-ltb i 64 (c .loop-slot-test .taken))
           ∙ one-more f i s (sym (w .if-is-some .ensures tt ∙ known))

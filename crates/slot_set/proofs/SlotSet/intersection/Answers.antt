@@ -1,6 +1,0 @@
-use mathlib.Core.Path.{refl}
-use Rattle.slot_set.proofs.Words.{has-and}
-use Rattle.slot_set.proofs.SlotSet.intersection.Needs as need
-
-pub returns : need.returns
-returns c = record { word = refl; slots = has-and (c .args .self .word) (c .args .other .word) }
