@@ -1,0 +1,4 @@
+pub mod Tariffs
+pub mod Sums
+pub mod Orders
+mod Counterexample
