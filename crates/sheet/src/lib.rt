@@ -1,6 +1,7 @@
 // The sheet: 16 rows for cases, 64 slots with prices, the five edits and the two questions.
 ghost use mathlib.Core.Path.{_≡_};
 ghost use mathlib.Core.Bool.{not};
+ghost use mathlib.Core.List.{map};
 ghost use Prim.Native.Nat.{ℕ, _<_, _≤_};
 ghost use lib.IntN.{ℤ};
 ghost use Rattle.std.specs.Options.{mapped, isSome};
@@ -67,6 +68,20 @@ impl Sheet {
             return None;
         }
         self.slots[slot]
+    }
+
+    // The rows of the table, for whoever goes through all of them.
+    pub fn rows(&self) -> &[Option<Case>; 16]
+        ensures { λ r. ⌜ map (mapped entry) (now r) ≡ contents (now (self .entry)) .rows ⌝ }
+    {
+        &self.rows
+    }
+
+    // The slots of the table: the price of each, if it is open.
+    pub fn slots(&self) -> &[Option<SlotPrice>; 64]
+        ensures { λ r. ⌜ map (mapped amount) (now r) ≡ contents (now (self .entry)) .prices ⌝ }
+    {
+        &self.slots
     }
 
     pub fn open_slots(&self) -> SlotSet

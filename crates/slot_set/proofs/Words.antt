@@ -1,14 +1,14 @@
 -- What the operations on words do to membership. Assumes nothing.
 use mathlib.Core.Path.{_≡_, refl, sym, ap, _∙_}
 use mathlib.Core.Logic.{_⊎_, inl, inr, ⊎-elim}
-use mathlib.Core.Bool.{Bool, true, false, _&&_, _||_}
-use Prim.Native.Nat.{ℕ, zero, suc, _+_, _*_, _/_, _%_, _^_, _≤_, _<_}
+use mathlib.Core.Bool.{Bool, true, false, not, _&&_, _||_}
+use Prim.Native.Nat.{ℕ, zero, suc, _+_, _-_, _*_, _/_, _%_, _^_, _≤_, _<_}
 use native.Mathlib.Omega.{arith}
 use native.Mathlib.Numerals.{one-add}
 use native.Mathlib.Nat.{div-one, zero-div, mul-mod-left, mul-div-cancel, pow-suc, div-add-mod'}
 use lib.Bits.{bitAnd, bitOr, and-shr, or-shr, and-mod, or-mod}
 use lib.Dec.{eqb, ltb}
-use Rattle.std.proofs.shelf.Tests.{eqb-true, eqb-false, eq-eqb, ne-eqb, cases-eq, cases-bool}
+use Rattle.std.proofs.shelf.Tests.{eqb-true, eqb-false, eq-eqb, ne-eqb, cases-eq, cases-bool, true≢false, false≢true}
 use Rattle.std.proofs.shelf.Bits.{shr-shr, div-below, mod-below, pow-pos}
 use Rattle.slot_set.specs.Sets.{has}
 
@@ -68,7 +68,7 @@ has-or a b s =
     ∙ bits-or (a / 2 ^ s % 2) (b / 2 ^ s % 2) (mod-below (a / 2 ^ s) 2 (omega arith)) (mod-below (b / 2 ^ s) 2 (omega arith))
 
 -- the half of a word of k + 1 bits has k
-half-below : (w k : ℕ) → w < 2 ^ suc k → w / 2 < 2 ^ k
+pub half-below : (w k : ℕ) → w < 2 ^ suc k → w / 2 < 2 ^ k
 half-below w k h = let p = pow-suc 2 k in div-below w 2 (2 ^ k) (omega arith) (omega arith)
 
 -- a word of k bits has no slot from k on
@@ -87,3 +87,45 @@ has-some (suc k) w h p = ⊎-elim
     let r = has-some k (w / 2) (half-below w k h) (omega arith) in
     (suc (r .0), omega (arith, r .1), has-suc w (r .0) ∙ r .2))
     (cases-eq (w % 2) 1)
+
+bit-eq : (a b : ℕ) → a < 2 → b < 2 → eqb a 1 ≡ eqb b 1 → a ≡ b
+bit-eq zero zero x y e = refl
+bit-eq zero (suc zero) x y e = absurd (false≢true e)
+bit-eq zero (suc (suc b)) x y e = absurd (omega arith)
+bit-eq (suc zero) zero x y e = absurd (true≢false e)
+bit-eq (suc zero) (suc zero) x y e = refl
+bit-eq (suc zero) (suc (suc b)) x y e = absurd (omega arith)
+bit-eq (suc (suc a)) b x y e = absurd (omega arith)
+
+-- two words of k bits with the same slots are equal
+pub same-word : (k a b : ℕ) → a < 2 ^ k → b < 2 ^ k → ((s : ℕ) → s < k → has a s ≡ has b s) → a ≡ b
+same-word zero a b h l e = omega arith
+same-word (suc k) a b h l e =
+    let low : a % 2 ≡ b % 2 = bit-eq (a % 2) (b % 2) (mod-below a 2 (omega arith)) (mod-below b 2 (omega arith))
+    (sym (has-zero a) ∙ e 0 (omega arith) ∙ has-zero b) in
+    let high : a / 2 ≡ b / 2 = same-word k (a / 2) (b / 2) (half-below a k h) (half-below b k l)
+    (λ s r. sym (has-suc a s) ∙ e (suc s) (omega arith) ∙ has-suc b s) in
+    omega (arith, div-add-mod' a 2, div-add-mod' b 2)
+
+bit-not : (a b : ℕ) → a + b ≡ 1 → eqb a 1 ≡ not (eqb b 1)
+bit-not zero zero e = absurd (omega arith)
+bit-not zero (suc zero) e = refl
+bit-not zero (suc (suc b)) e = absurd (omega arith)
+bit-not (suc zero) zero e = refl
+bit-not (suc zero) (suc b) e = absurd (omega arith)
+bit-not (suc (suc a)) b e = absurd (omega arith)
+
+-- the complement of a word of k bits has the slots that the word lacks
+pub has-not : (k w s : ℕ) → w < 2 ^ k → s < k → has ((2 ^ k - 1) - w) s ≡ not (has w s)
+has-not zero w s h l = absurd (omega arith)
+has-not (suc k) w zero h l =
+    let p = pow-suc 2 k in
+    let v = (2 ^ suc k - 1) - w in
+    has-zero v ∙ bit-not (v % 2) (w % 2) (omega arith) ∙ ap not (sym (has-zero w))
+has-not (suc k) w (suc s) h l =
+    let p = pow-suc 2 k in
+    let half : ((2 ^ suc k - 1) - w) / 2 ≡ (2 ^ k - 1) - w / 2 = omega arith in
+    has-suc ((2 ^ suc k - 1) - w) s
+    ∙ ap (λ x. has x s) half
+    ∙ has-not k (w / 2) s (half-below w k h) (omega arith)
+    ∙ ap not (sym (has-suc w s))

@@ -1,0 +1,4 @@
+pub mod DistinctLaw
+pub mod House
+pub mod Striking
+pub mod Sum
