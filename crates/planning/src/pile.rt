@@ -18,14 +18,7 @@ pub impl<P: Pruner, Q: Pruner> Pruner for Pile<P, Q> as PilePruner {
         let Some(next) = self.first.prune(tariff, ceiling, work) else {
             return None;
         };
-        let inner = WorkingSheet {
-            count: work.count,
-            rows: work.rows,
-            needs: work.needs,
-            sets: next,
-            prices: work.prices,
-            opened: work.opened,
-        };
+        let inner = work.with_sets(next);
         self.second.prune(tariff, ceiling, &inner)
     }
 }

@@ -2,6 +2,8 @@
 ghost use Rattle.pruners.specs.House.{House-lawful};
 
 mod distinct;
+#[cfg(test)]
+mod tests;
 
 pub use distinct::Distinct;
 pub use distinct::DistinctPruner;

@@ -7,6 +7,7 @@ ghost use lib.ListN.{take, getD, set};
 ghost use Rattle.std.specs.Options.{mapped, valueOr};
 ghost use Rattle.slot_set.specs.Sets.{has, keep};
 ghost use Rattle.sheet.specs.Contents.{contents, entry, amount, is-open};
+ghost use Rattle.planning.specs.Invariants.{Open};
 ghost use Rattle.planning.specs.Standing.{standing-from, placed, rows-of, needs-of, usable-sets, prices-of};
 ghost use Rattle.planning.specs.Working.{sets-in};
 use crate::working_sheet::WorkingSheet;
@@ -49,6 +50,24 @@ impl WorkingSheet {
             sets,
             prices,
             opened,
+        }
+    }
+
+    // The same cases with other sets, which hold no closed slot.
+    pub(crate) fn with_sets(&self, sets: [u64; 16]) -> WorkingSheet
+        requires { ⌜ Open (now self .opened) sets ⌝ }
+        ensures sets { λ r. ⌜ r .sets ≡ sets ⌝ }
+        ensures count { λ r. ⌜ r .count ≡ now (self .entry) .count ⌝ }
+        ensures needs { λ r. ⌜ r .needs ≡ now (self .entry) .needs ⌝ }
+        ensures prices { λ r. ⌜ r .prices ≡ now (self .entry) .prices ⌝ }
+    {
+        WorkingSheet {
+            count: self.count,
+            rows: self.rows,
+            needs: self.needs,
+            sets,
+            prices: self.prices,
+            opened: self.opened,
         }
     }
 
