@@ -43,7 +43,12 @@ fn distinct_strikes_what_one_case_needs() -> Result<(), Fail> {
     let prices = [(0, 10), (1, -4), (2, 4)];
     check(gives(&Distinct, 0, &board(&[(2, 1), (3, 7)], &prices), &[1, 6]))?;
     check(gives(&Distinct, 0, &board(&[(2, 3), (3, 3)], &prices), &[3, 3]))?;
-    check(gives(&Distinct, 0, &board(&[(2, 1), (3, 3), (1, 7)], &prices), &[1, 2, 6]))?;
+    check(gives(
+        &Distinct,
+        0,
+        &board(&[(2, 1), (3, 3), (1, 7)], &prices),
+        &[1, 2, 6],
+    ))?;
     check(dies(&Distinct, 0, &board(&[(2, 1), (3, 1)], &prices)))
 }
 
@@ -52,16 +57,41 @@ fn distinct_at_the_edges() -> Result<(), Fail> {
     let prices = [(0, 10), (63, 0)];
     check(gives(&Distinct, 0, &board(&[], &prices), &[]))?;
     check(dies(&Distinct, 0, &board(&[(2, 2)], &prices)))?;
-    check(gives(&Distinct, 0, &board(&[(1, u64::MAX), (1, 1 << 63)], &prices), &[1, 1 << 63]))?;
-    check(dies(&Distinct, 0, &board(&[(1, 3), (1, 7)], &prices).narrowed(1, 0)))
+    check(gives(
+        &Distinct,
+        0,
+        &board(&[(1, u64::MAX), (1, 1 << 63)], &prices),
+        &[1, 1 << 63],
+    ))?;
+    check(dies(
+        &Distinct,
+        0,
+        &board(&[(1, 3), (1, 7)], &prices).narrowed(1, 0),
+    ))
 }
 
 #[test]
 fn piles_go_on_from_the_first() -> Result<(), Fail> {
     let prices = [(0, 10), (1, -4), (2, 4)];
-    let twice = Pile { first: Distinct, second: Distinct };
-    check(gives(&twice, 0, &board(&[(2, 1), (3, 3), (1, 7)], &prices), &[1, 2, 4]))?;
-    let thrice = Pile { first: twice, second: Distinct };
-    check(gives(&thrice, 0, &board(&[(2, 1), (3, 3), (1, 7)], &prices), &[1, 2, 4]))?;
+    let twice = Pile {
+        first: Distinct,
+        second: Distinct,
+    };
+    check(gives(
+        &twice,
+        0,
+        &board(&[(2, 1), (3, 3), (1, 7)], &prices),
+        &[1, 2, 4],
+    ))?;
+    let thrice = Pile {
+        first: twice,
+        second: Distinct,
+    };
+    check(gives(
+        &thrice,
+        0,
+        &board(&[(2, 1), (3, 3), (1, 7)], &prices),
+        &[1, 2, 4],
+    ))?;
     check(dies(&thrice, 0, &board(&[(2, 1), (3, 3), (1, 3)], &prices)))
 }

@@ -12,12 +12,12 @@ abbrev pub has : ℕ → ℕ → Bool
 has word s = eqb (word / (2 ^ s) % 2) 1
 
 -- no slot is in the set
-abbrev pub Nobody : ℕ → Type 0
-Nobody word = (s : ℕ) → has word s ≡ false
+abbrev pub No-slot : ℕ → Type 0
+No-slot word = (s : ℕ) → has word s ≡ false
 
 -- some slot is in the set
-abbrev pub Somebody : ℕ → Type 0
-Somebody word = (s : ℕ) × (s < 64) × (has word s ≡ true)
+abbrev pub Some-slot : ℕ → Type 0
+Some-slot word = (s : ℕ) × (s < 64) × (has word s ≡ true)
 
 -- the numbers from s, n of them
 abbrev pub from : ℕ → ℕ → List ℕ

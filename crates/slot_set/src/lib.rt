@@ -5,7 +5,7 @@ ghost use mathlib.Core.Bool.{true, false, _&&_, _||_};
 ghost use Prim.Native.Nat.{ℕ};
 ghost use lib.Bits.{bitAnd};
 ghost use lib.Dec.{eqb, ltb};
-ghost use Rattle.slot_set.specs.Sets.{has, Nobody, Somebody};
+ghost use Rattle.slot_set.specs.Sets.{has, No-slot, Some-slot};
 
 #[derive(Clone, Copy, PartialEq, Eq, Debug)]
 pub struct SlotSet {
@@ -34,7 +34,7 @@ impl SlotSet {
 
     pub fn is_empty(&self) -> bool
         ensures word { λ r. ⌜ r ≡ eqb (now (self .entry) .word) 0 ⌝ }
-        ensures slots { λ r. ⌜ (r ≡ true → Nobody (now (self .entry) .word)) × (r ≡ false → Somebody (now (self .entry) .word)) ⌝ }
+        ensures slots { λ r. ⌜ (r ≡ true → No-slot (now (self .entry) .word)) × (r ≡ false → Some-slot (now (self .entry) .word)) ⌝ }
     {
         is_none(self.word)
     }
@@ -69,7 +69,7 @@ fn word_has(word: u64, slot: usize) -> bool
 
 fn is_none(word: u64) -> bool
     ensures word { λ r. ⌜ r ≡ eqb word 0 ⌝ }
-    ensures slots { λ r. ⌜ (r ≡ true → Nobody word) × (r ≡ false → Somebody word) ⌝ }
+    ensures slots { λ r. ⌜ (r ≡ true → No-slot word) × (r ≡ false → Some-slot word) ⌝ }
 {
     word == 0
 }
