@@ -5,7 +5,9 @@ use mathlib.Core.Bool.{true}
 use mathlib.Core.List.{List, [], _∷_}
 use Prim.Native.Nat.{ℕ, zero, suc, _+_, _-_, _≤_, _<_}
 use native.Mathlib.Omega.{arith}
+use lib.IntN.{ℤ}
 use lib.ListN.{length, getD, take, drop}
+use Rattle.std.specs.declared.option.Option.{Option}
 use Rattle.std.specs.shelf.Lists.{All}
 use Rattle.std.proofs.shelf.Lists.{getD-take, getD-drop, length-take-le}
 use Rattle.std.proofs.shelf.Tests.{cases-lt, both-ways}
@@ -14,8 +16,9 @@ use Rattle.slot_set.proofs.Words.{has-none}
 use Rattle.tariff.specs.Charges.{Charge, Lawful-tariff, Need}
 use Rattle.planning.specs.declared.working_sheet.WorkingSheet.{WorkingSheet}
 use Rattle.planning.specs.Invariants.{Open}
-use Rattle.planning.specs.Pruners.{Parts, Priced, Proper}
-use Rattle.planning.specs.Working.{given, sets-in}
+use Rattle.planning.specs.Pruners.{Lawful, Parts, Priced, Proper, Prune}
+use Rattle.planning.specs.Working.{Kept-points, first-sets, given, sets-in}
+use Rattle.planning.proofs.Parts.{parts-refl}
 
 -- the first n, place by place
 all-take : (P : ℕ → Type 0) (n : ℕ) (xs : List ℕ) → n ≤ length xs → ((i : ℕ) → i < n → P (getD xs i 0)) → All P (take n xs)
@@ -52,3 +55,14 @@ open-parts opened n es ds h parts rest i s t = ⊎-elim
     (λ l. h i s (ap (λ x. has x s) (sym (getD-take n ds i 0 l)) ∙ part-at (take n es) (take n ds) parts i s (ap (λ x. has x s) (getD-take n es i 0 l) ∙ t)))
     (λ l. h i s (ap (λ x. has x s) (sym (past n i es ds l rest)) ∙ t))
     (cases-lt i n)
+
+-- an answer that is a lawful pruner's keeps the three points
+pub points-kept : (w : WorkingSheet) (charge : Charge) (greatest : ℕ) → Lawful-tariff charge greatest → (f : Prune) → Lawful f → (c : ℤ) (r : Option (List ℕ))
+    → first-sets (w .count) r ≡ f (given w charge) c (sets-in w) → Kept-points w (given w charge) c r
+points-kept w charge greatest law f lawful c r m =
+    let points = lawful (given w charge) (sets-in w) (proper-sheet w charge greatest law) c (sets-in w) (parts-refl (sets-in w)) in
+    record {
+      part = λ es e. points .part (take (w .count) es) (sym m ∙ ap (first-sets (w .count)) e);
+      keeps = λ es e. points .keeps (take (w .count) es) (sym m ∙ ap (first-sets (w .count)) e);
+      dead = λ e. points .dead (sym m ∙ ap (first-sets (w .count)) e);
+    }

@@ -9,6 +9,7 @@ mod working_sheet;
 pub use pile::Pile;
 pub use pile::PilePruner;
 pub use pruner::Pruner;
+pub use pruner::ask;
 pub use working_sheet::WorkingSheet;
 
 // The list of all plans has exactly the plans drawn from the sets, in plan order, each once.

@@ -1,7 +1,7 @@
 ghost use mathlib.Core.Path.{_≡_};
 ghost use lib.ListN.{take};
 ghost use Rattle.planning.specs.Pruners.{Prune, Lawful};
-ghost use Rattle.planning.specs.Working.{sets-in, given, first-sets, Rest-kept};
+ghost use Rattle.planning.specs.Working.{sets-in, given, first-sets, Rest-kept, Kept-points};
 use crate::working_sheet::WorkingSheet;
 use tariff::Tariff;
 
@@ -19,4 +19,18 @@ pub trait Pruner {
     fn prune<T: Tariff>(&self, tariff: &T, ceiling: i64, work: &WorkingSheet) -> Option<[u64; 16]>
         ensures rest { λ r. ⌜ Rest-kept (now (work .entry) .count) (now (work .entry) .sets) r ⌝ }
         ensures meaning { λ r. ⌜ first-sets (now (work .entry) .count) r ≡ prunes (now (self .entry)) (given (now (work .entry)) (T·Tariff .charges (now (tariff .entry)))) ceiling (sets-in (now (work .entry))) ⌝ };
+}
+
+// Asks any pruner. Whatever it is, and with whatever tariff: its new sets are parts of the old ones, no plan within the
+// ceiling is lost, and it is dead only where there is none.
+pub fn ask<P: Pruner, T: Tariff>(
+    pruner: &P,
+    tariff: &T,
+    ceiling: i64,
+    work: &WorkingSheet,
+) -> Option<[u64; 16]>
+    ensures meaning { λ r. ⌜ first-sets (now (work .entry) .count) r ≡ P·Pruner .prunes (now (pruner .entry)) (given (now (work .entry)) (T·Tariff .charges (now (tariff .entry)))) ceiling (sets-in (now (work .entry))) ⌝ }
+    ensures points { λ r. ⌜ Kept-points (now (work .entry)) (given (now (work .entry)) (T·Tariff .charges (now (tariff .entry)))) ceiling r ⌝ }
+{
+    pruner.prune(tariff, ceiling, work)
 }

@@ -2,7 +2,7 @@
 use Rattle.planning.proofs.Piles.{piles-lawful}
 use Rattle.pruners.specs.House.{House, Distinct, Sum, Pile, House-lawful, prune-by}
 use Rattle.pruners.proofs.DistinctLaw.{distinct-lawful}
-use Rattle.pruners.proofs.Sum.{sum-lawful}
+use Rattle.pruners.proofs.SumLaw.{sum-lawful}
 
 pub house-lawful : House-lawful
 house-lawful Distinct = distinct-lawful

@@ -1,4 +1,7 @@
+pub mod Affording
 pub mod DistinctLaw
 pub mod House
+pub mod Least
 pub mod Striking
-pub mod Sum
+pub mod SumLaw
+pub mod Totals

@@ -1,13 +1,18 @@
 -- The pruner Sum: each case at its least charge. Assumes nothing.
 use mathlib.Core.Bool.{cond}
 use mathlib.Core.List.{List, [], _∷_}
-use Prim.Native.Nat.{ℕ}
+use mathlib.Core.Path.{_≡_}
+use Prim.Native.Nat.{ℕ, _<_}
 use lib.IntN.{ℤ, pos, _+ℤ_, _-ℤ_}
+use lib.ListN.{getD}
 use lib.Signed.{leZ, ltZ}
 use Rattle.std.specs.declared.option.Option.the-variants.{Some, None}
 use Rattle.slot_set.specs.Sets.{members, keep, some-empty}
 use Rattle.planning.specs.Plans.{Given, at-slot}
 use Rattle.planning.specs.Pruners.{Prune}
+use Rattle.planning.specs.Working.{given}
+use Rattle.planning.specs.declared.working_sheet.WorkingSheet.{WorkingSheet}
+use Rattle.tariff.specs.Charges.{Charge}
 
 -- the least charge over some slots
 abbrev pub least : (ℕ → ℤ) → List ℕ → ℤ
@@ -36,3 +41,7 @@ abbrev pub sum : Prune
 sum g c ds =
     cond (some-empty ds) None
     (let m : ℤ = leasts g (g .needs) ds in cond (ltZ c m) None (Some (sum-strike g c m (g .needs) ds)))
+
+-- ms has the least charge of each case of a working sheet at its place
+abbrev pub Least-each : WorkingSheet → Charge → List ℤ → Type 0
+Least-each w charge ms = (i : ℕ) → i < w .count → getD ms i (pos 0) ≡ least-in (given w charge) (getD (w .needs) i 0) (getD (w .sets) i 0)

@@ -3,8 +3,9 @@ ghost use mathlib.Core.List.{[]};
 ghost use mathlib.Core.Bool.{not, _&&_};
 ghost use Prim.Native.Nat.{ℕ, _<_, _≤_};
 ghost use lib.ListN.{getD, take, drop};
-ghost use Rattle.slot_set.specs.Sets.{has, single, some-empty};
+ghost use Rattle.slot_set.specs.Sets.{has, single};
 ghost use Rattle.pruners.specs.Distinct.{claimed, unclaimed, distinct};
+use crate::sets::any_empty;
 use planning::Pruner;
 use planning::WorkingSheet;
 use tariff::Tariff;
@@ -75,16 +76,4 @@ fn without(word: u64, other: u64) -> u64
     ensures { λ r. ⌜ ((s : ℕ) → has r s ≡ (has word s && not (has other s))) ⌝ }
 {
     word & !other
-}
-
-fn any_empty(sets: &[u64; 16], count: usize) -> bool
-    requires { ⌜ count ≤ 16 ⌝ }
-    ensures { λ r. ⌜ r ≡ some-empty (take count (now (sets .entry))) ⌝ }
-{
-    for i in 0..count {
-        if sets[i] == 0 {
-            return true;
-        }
-    }
-    false
 }

@@ -1,10 +1,13 @@
 // Every pruner and some piles on small boards, with the plain tariff.
 use crate::distinct::Distinct;
 use crate::distinct::DistinctPruner;
+use crate::sum::Sum;
+use crate::sum::SumPruner;
 use planning::Pile;
 use planning::PilePruner;
 use planning::Pruner;
 use planning::WorkingSheet;
+use planning::ask;
 use sheet::Sheet;
 use std::test::*;
 use tariff::Plain;
@@ -23,11 +26,11 @@ fn board(cases: &[(u64, u64)], prices: &[(usize, i64)]) -> WorkingSheet {
 }
 
 fn dies<P: Pruner>(pruner: &P, ceiling: i64, work: &WorkingSheet) -> bool {
-    pruner.prune(&Plain, ceiling, work).is_none()
+    ask(pruner, &Plain, ceiling, work).is_none()
 }
 
 fn gives<P: Pruner>(pruner: &P, ceiling: i64, work: &WorkingSheet, sets: &[u64]) -> bool {
-    let Some(next) = pruner.prune(&Plain, ceiling, work) else {
+    let Some(next) = ask(pruner, &Plain, ceiling, work) else {
         return false;
     };
     for (i, set) in sets.iter().enumerate() {
@@ -94,4 +97,57 @@ fn piles_go_on_from_the_first() -> Result<(), Fail> {
         &[1, 2, 4],
     ))?;
     check(dies(&thrice, 0, &board(&[(2, 1), (3, 3), (1, 3)], &prices)))
+}
+
+// Needs 2 and 3, slots 0 and 1 at 10 and 4: the least charges are 8 and 12.
+#[test]
+fn sum_strikes_above_the_ceiling() -> Result<(), Fail> {
+    let work = board(&[(2, 3), (3, 3)], &[(0, 10), (1, 4)]);
+    check(gives(&Sum, 38, &work, &[3, 3]) && gives(&Sum, 37, &work, &[3, 2]))?;
+    check(gives(&Sum, 32, &work, &[3, 2]) && gives(&Sum, 31, &work, &[2, 2]))?;
+    check(gives(&Sum, 20, &work, &[2, 2]) && dies(&Sum, 19, &work))?;
+    check(gives(&Sum, i64::MAX, &work, &[3, 3]) && dies(&Sum, i64::MIN, &work))?;
+    check(dies(&Sum, i64::MAX, &work.narrowed(1, 0)))
+}
+
+#[test]
+fn sum_with_equal_and_negative_charges() -> Result<(), Fail> {
+    let equal = board(&[(1, 3), (1, 3)], &[(0, 3), (1, 3)]);
+    check(gives(&Sum, 6, &equal, &[3, 3]) && dies(&Sum, 5, &equal))?;
+    let signed = board(&[(2, 3)], &[(0, -5), (1, 5)]);
+    check(gives(&Sum, 10, &signed, &[3]) && gives(&Sum, 9, &signed, &[1]))?;
+    check(gives(&Sum, -10, &signed, &[1]) && dies(&Sum, -11, &signed))?;
+    let none = board(&[], &[(0, 3)]);
+    check(gives(&Sum, 0, &none, &[]) && dies(&Sum, -1, &none))
+}
+
+#[test]
+fn piles_of_both() -> Result<(), Fail> {
+    let work = board(&[(2, 3), (3, 3)], &[(0, 10), (1, 4)]);
+    check(gives(
+        &Pile {
+            first: Distinct,
+            second: Sum,
+        },
+        31,
+        &work,
+        &[2, 2],
+    ))?;
+    check(dies(
+        &Pile {
+            first: Sum,
+            second: Distinct,
+        },
+        31,
+        &work,
+    ))?;
+    check(gives(
+        &Pile {
+            first: Sum,
+            second: Distinct,
+        },
+        32,
+        &work,
+        &[1, 2],
+    ))
 }

@@ -6,7 +6,7 @@ use lib.ListN.{getD, take, drop}
 use Rattle.std.proofs.shelf.Tests.{eq-eqb, ne-eqb}
 use Rattle.slot_set.specs.Sets.{some-empty}
 use Rattle.pruners.proofs.Striking.{empty-more, empty-all}
-use Rattle.pruners.proofs.distinct.any_empty.Needs as need
+use Rattle.pruners.proofs.sets.any_empty.Needs as need
 
 pub returns-then-sets-i-eq0 : need.returns-then-sets-i-eq0
 returns-then-sets-i-eq0 c =
