@@ -7,8 +7,6 @@ use Rattle.std.specs.declared.option.Option.{Option}
 use Rattle.std.specs.declared.option.Option.the-variants.{Some, None}
 use Rattle.slot_set.specs.Sets.{keep}
 use Rattle.sheet.specs.Contents.{Contents, Entry, is-open}
-use Rattle.tariff.specs.Charges.{Charge}
-use Rattle.planning.specs.Plans.{Given}
 
 -- a case that stands, and its row
 pub record Standing : Type 0 where
@@ -45,7 +43,3 @@ needs-of s = map (λ c. c .entry .need) (standing s)
 
 abbrev pub usable-sets : Contents → List ℕ
 usable-sets s = map (usable-set s) (standing s)
-
--- what a pruner and a search are given of a sheet
-abbrev pub given-of : Contents → Charge → Given
-given-of s w = record { needs = needs-of s; prices = prices-of s; charge = w }

@@ -1,6 +1,5 @@
 pub mod Affording
 pub mod DistinctLaw
-pub mod House
 pub mod Least
 pub mod Striking
 pub mod SumLaw

@@ -1,5 +1,4 @@
-// The house pruners.
-ghost use Rattle.pruners.specs.House.{House-lawful};
+// The house pruners Distinct and Sum.
 
 mod distinct;
 mod sets;
@@ -11,10 +10,3 @@ pub use distinct::Distinct;
 pub use distinct::DistinctPruner;
 pub use sum::Sum;
 pub use sum::SumPruner;
-
-// Each house pruner, and every pile of them, is lawful: on every sheet, with every lawful tariff, at any ceiling and any
-// working sets, each new set is a part of the old one; each plan drawn from the old sets, within the ceiling, can be drawn
-// from the new ones; and it is dead only if there is no such plan.
-pub fn house_pruners_are_lawful()
-    ensures { λ _. ⌜ House-lawful ⌝ }
-{}
