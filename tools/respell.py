@@ -74,9 +74,13 @@ def spelled(name, kinds):
 
 
 def imported(text):
-    """The dashed names that a file takes from the standard library."""
+    """The names that a file takes from a library that is not of this repository."""
+    own = {line.split(':')[0] for line in open('crates.txt') if ':' in line and not line.startswith('#')}
     names = set()
-    for path, items in re.findall(r'use (Rattle\.std[\w.]*)\.\{([^}]*)\}', text):
+    for path, items in re.findall(r'use ([\w.]*)\.\{([^}]*)\}', text):
+        steps = path.split('.')
+        if steps[0] == 'Rattle' and steps[1] in own:
+            continue
         for item in items.split(','):
             names |= set(re.split(r'\s+as\s+', item.strip())[:1])
     return names

@@ -1,7 +1,7 @@
 -- What a set has, keeps and counts. Assumes nothing.
 use Rattle.std.proofs.Common.{◌≡◌, ℕ, zero, suc, ◌+◌, ◌*◌, ◌/◌, ◌%◌, ◌^◌, ◌<◌, ◌≤◌, Bool, true, false, cond, ◌&&◌, eqb, ltb, List, [], ◌∷◌, length, filter, sym, refl, ap, ◌∙◌, subst, inl, inr, add-zero, add-suc, suc-add, one-mul, zero-add, one-add, arith}
-use native.Mathlib.Nat.{pow_succ', zero_div}
-use lib.Dec.{leb_suc_suc, leb_suc_zero}
+use native.Mathlib.Nat.{pow-succ', zero-div}
+use lib.Dec.{leb-suc-suc, leb-suc-zero}
 use Rattle.std.proofs.lemmas.Nat.{shr-shr}
 use Rattle.std.proofs.lemmas.Bool.{and_from, and_parts, both_ways, cases_eq, cond_both, eq-eqb, eqb-true, lt-ltb, ne_eqb, or_from}
 use Rattle.std.specs.List.{AllByRecursion as All}
@@ -17,8 +17,8 @@ packed f k zero = 0
 packed f k (suc n) = cond (f k) 1 0 + 2 * packed f (suc k) n
 
 packed_step : (b : Bool) (k m : ℕ) (xs : List ℕ) → word_of xs ≡ 2 ^ suc k * m → word_of (cond b (k ∷ xs) xs) ≡ 2 ^ k * (cond b 1 0 + 2 * m)
-packed_step true k m xs e = let h : word_of xs ≡ 2 * 2 ^ k * m = rw pow_succ' at e in omega arith
-packed_step false k m xs e = let h : word_of xs ≡ 2 * 2 ^ k * m = rw pow_succ' at e in omega arith
+packed_step true k m xs e = let h : word_of xs ≡ 2 * 2 ^ k * m = rw pow-succ' at e in omega arith
+packed_step false k m xs e = let h : word_of xs ≡ 2 * 2 ^ k * m = rw pow-succ' at e in omega arith
 
 word_packed : (f : ℕ → Bool) (k n : ℕ) → word_of (filter f (from k n)) ≡ 2 ^ k * packed f k n
 unfolding packed
@@ -38,9 +38,9 @@ bit_suc b m j = rw (← one-add j, ← shr-shr (cond b 1 0 + 2 * m) 1 j) (ap (λ
 
 has_packed : (f : ℕ → Bool) (k n j : ℕ) → has (packed f k n) j ≡ (ltb j n && f (k + j))
 unfolding packed
-has_packed f k zero j = ap (λ x. eqb (x % 2) 1) (zero_div (2 ^ j)) ∙ sym (ap (λ b. b && f (k + j)) (leb_suc_zero j))
+has_packed f k zero j = ap (λ x. eqb (x % 2) 1) (zero-div (2 ^ j)) ∙ sym (ap (λ b. b && f (k + j)) (leb-suc-zero j))
 has_packed f k (suc n) zero = bit_zero (f k) (packed f (suc k) n) ∙ (rw (lt-ltb 0 (suc n) (omega arith), add-zero k))
-has_packed f k (suc n) (suc j) = ap (λ x. eqb (x % 2) 1) (bit_suc (f k) (packed f (suc k) n) j) ∙ has_packed f (suc k) n j ∙ (rw (leb_suc_suc (suc j) n, suc-add k j, add-suc k j))
+has_packed f k (suc n) (suc j) = ap (λ x. eqb (x % 2) 1) (bit_suc (f k) (packed f (suc k) n) j) ∙ has_packed f (suc k) n j ∙ (rw (leb-suc-suc (suc j) n, suc-add k j, add-suc k j))
 
 kept_step : (f : ℕ → Bool) (x : ℕ) (ys zs : List ℕ) (b : Bool) → filter f ys ≡ zs → filter f (cond b (x ∷ ys) ys) ≡ cond (b && f x) (x ∷ zs) zs
 kept_step f x ys zs true e = ap (λ ys. cond (f x) (x ∷ ys) ys) e
@@ -62,7 +62,7 @@ packed_below : (f : ℕ → Bool) (k n : ℕ) → packed f k n < 2 ^ n
 unfolding packed
 packed_below f k zero = omega arith
 packed_below f k (suc n) = cond_both (f k) 1 0 (λ b. b + 2 * packed f (suc k) n < 2 ^ suc n)
-    (λ _. omega (arith, packed_below f (suc k) n, pow_succ' 2 n)) (λ _. omega (arith, packed_below f (suc k) n, pow_succ' 2 n))
+    (λ _. omega (arith, packed_below f (suc k) n, pow-succ' 2 n)) (λ _. omega (arith, packed_below f (suc k) n, pow-succ' 2 n))
 
 word_below : (f : ℕ → Bool) (n : ℕ) → word_of (filter f (from 0 n)) < 2 ^ n
 word_below f n = rw (word_packed f 0 n, one-mul (packed f 0 n)) (packed_below f 0 n)
@@ -130,7 +130,7 @@ single_one d s t e h k p q = one_member (members d) (eqb-true (length (members d
 
 -- sets from which a plan can be drawn are not empty
 has_none : (s : ℕ) → has 0 s ≡ false
-has_none s = ap (λ x. eqb (x % 2) 1) (zero_div (2 ^ s))
+has_none s = ap (λ x. eqb (x % 2) 1) (zero-div (2 ^ s))
 
 pub drawn_full : (ds p : List ℕ) → Drawn ds p → some_empty ds ≡ false
 drawn_full [] p h = refl

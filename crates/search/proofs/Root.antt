@@ -1,6 +1,6 @@
 -- The start and the end of a search. Assumes nothing.
 use Rattle.std.proofs.Common.{◌≡◌, ℕ, suc, ◌-◌, ◌*◌, ◌^◌, ◌<◌, ◌≤◌, true, List, [], ◌∷◌, length, get_or, take, ℤ, sym, ap, ◌∙◌, subst, arith}
-use lib.Count.{ones_le}
+use lib.Count.{ones-le}
 use Rattle.std.proofs.lemmas.List.{length-take-le}
 use Rattle.stack.specs.declared.Stack.{Stack}
 use Rattle.stack.specs.Entries.{held, room}
@@ -24,7 +24,7 @@ use Rattle.search.proofs.Visits.{resume_stopped}
 
 weight_le : (ds : List ℕ) → ((i : ℕ) → get_or ds i 0 < 2 ^ 64) → weight ds ≤ 64 * length ds
 weight_le [] h = omega arith
-weight_le (d ∷ ds) h = omega (arith, ones_le 64 d (h 0), weight_le ds (λ i. h (suc i)))
+weight_le (d ∷ ds) h = omega (arith, ones-le 64 d (h 0), weight_le ds (λ i. h (suc i)))
 
 pub sound_start : (k : ℕ) (s : Stack Saved) (ds : List ℕ) → Open k ds → s.height ≡ 0 → 1024 ≤ room s → length ds ≡ 16 → ((i : ℕ) → get_or ds i 0 < 2 ^ 64) → Sound k s ds
 sound_start k s ds o e w l h = record {

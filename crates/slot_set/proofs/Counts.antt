@@ -1,6 +1,6 @@
 -- How many slots a set has. Assumes nothing.
 use Rattle.std.proofs.Common.{◌≡◌, ℕ, zero, suc, ◌+◌, ◌/◌, ◌%◌, ◌^◌, ◌<◌, Bool, true, false, cond, eqb, List, [], ◌∷◌, length, filter, sym, refl, ap, ◌∙◌, ap₂, zero-add, one-add, arith}
-use lib.Count.{ones, ones_le, ones_step}
+use lib.Count.{ones, ones-le, ones_step}
 use Rattle.std.proofs.lemmas.Nat.{mod_below}
 use Rattle.slot_set.specs.Sets.{every_slot, from, has, members}
 use Rattle.slot_set.proofs.Words.{half_below, has_suc, has_zero}
@@ -27,7 +27,7 @@ bit_back (suc zero) h = refl
 bit_back (suc (suc a)) h = absurd (omega arith)
 
 count_below : (n w : ℕ) → w < 2 ^ n → length (filter (has w) (from 0 n)) ≡ ones w
-count_below zero w h = omega (arith, ones_le 0 w h)
+count_below zero w h = omega (arith, ones-le 0 w h)
 count_below (suc n) w h =
     length_cond (has w 0) 0 (filter (has w) (from 1 n))
     ∙ ap₂ (λ a b. a + b)

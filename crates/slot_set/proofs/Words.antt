@@ -1,6 +1,6 @@
 -- What the operations on words do to membership. Assumes nothing.
 use Rattle.std.proofs.Common.{◌≡◌, ℕ, zero, suc, ◌+◌, ◌-◌, ◌*◌, ◌/◌, ◌%◌, ◌^◌, ◌<◌, ◌≤◌, Bool, true, false, not, ◌&&◌, ◌||◌, eqb, ltb, ◌⊎◌, sym, refl, ap, ◌∙◌, inl, inr, ⊎_elim, pow-suc, div-add-mod', div-one, mul-div_cancel, one-add, arith}
-use native.Mathlib.Nat.{zero_div, mul_mod_left}
+use native.Mathlib.Nat.{zero-div, mul-mod_left}
 use lib.Bits.{bit_and, bit_or, and_shr, or_shr, and_mod, or_mod}
 use Rattle.std.proofs.lemmas.Bool.{eqb-true, eqb-false, eq-eqb, ne_eqb, cases_eq, cases_Bool, true≢false, false≢true}
 use Rattle.std.proofs.lemmas.Nat.{shr-shr, div_below, mod_below, pow_pos}
@@ -13,13 +13,13 @@ pub has_zero : (w : ℕ) → has w 0 ≡ eqb (w % 2) 1
 has_zero w = ap (λ j. eqb (j % 2) 1) (div-one w)
 
 pub has_none : (s : ℕ) → has 0 s ≡ false
-has_none s = ap (λ j. eqb (j % 2) 1) (zero_div (2 ^ s))
+has_none s = ap (λ j. eqb (j % 2) 1) (zero-div (2 ^ s))
 
 half_pow : (s : ℕ) → 2 ^ suc s / 2 ≡ 2 ^ s
 half_pow s = ap (λ j. j / 2) (pow-suc 2 s) ∙ mul-div_cancel (2 ^ s) (omega arith)
 
 even_pow : (s : ℕ) → 2 ^ suc s % 2 ≡ 0
-even_pow s = ap (λ j. j % 2) (pow-suc 2 s) ∙ mul_mod_left (2 ^ s) 2
+even_pow s = ap (λ j. j % 2) (pow-suc 2 s) ∙ mul-mod_left (2 ^ s) 2
 
 eqb_suc : (a b : ℕ) → eqb a b ≡ eqb (suc a) (suc b)
 eqb_suc a b = ⊎_elim

@@ -23,13 +23,13 @@ returns g c =
     let list = c.args.plan.now in
     let task : sheet_given w charges ≡ given_of s charges = given_is w s charges made.needs made.prices in
     let count : w.count ≡ cases_of s = count_is w s made.sets in
-    let done = c.solve-work.ensures in
-    let said : c.solve-work.result ≡ solved s q =
+    let done = c.solve_work.ensures in
+    let said : c.solve_work.result ≡ solved s q =
     done.said
     ∙ ap (λ (x : Given). solved_by x (sets_in w) w.count q) task
     ∙ ap (λ (x : List ℕ). solved_by (given_of s charges) x w.count q) made.sets
     ∙ ap (λ (x : ℕ). solved_by (given_of s charges) (usable_sets s) x q) count in
-    let plan : c.solve-work.new.plan ≡ plan_after s q list =
+    let plan : c.solve_work.new.plan ≡ plan_after s q list =
     done.plan
     ∙ ap (λ (x : Given). plan_by x (take w.count w.rows) (sets_in w) w.count q list) task
     ∙ ap (λ (x : List ℕ). plan_by (given_of s charges) x (sets_in w) w.count q list) made.rows
@@ -42,8 +42,8 @@ returns g c =
       solves = record {
         said = said;
         plan = plan;
-        right = solve_right s q list c.solve-work.new.plan c.solve-work.result proper (g.met.P.Pruner.lawful c.args.pruner.now) said plan;
+        right = solve_right s q list c.solve_work.new.plan c.solve_work.result proper (g.met.P.Pruner.lawful c.args.pruner.now) said plan;
       };
       ceiling = done.ceiling;
-      lists = subst (λ (x : ℕ). ListsKept (checked x q) c.args.saved.now c.solve-work.new.saved c.args.decisions.now c.solve-work.new.decisions) count done.lists;
+      lists = subst (λ (x : ℕ). ListsKept (checked x q) c.args.saved.now c.solve_work.new.saved c.args.decisions.now c.solve_work.new.decisions) count done.lists;
     }

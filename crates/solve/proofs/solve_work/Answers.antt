@@ -30,8 +30,8 @@ unreachable-requires g c =
     let charges = g.T.Tariff.charges c.args.tariff.now in
     let prunes = g.P.Pruner.prunes c.args.pruner.now in
     let q = request charges prunes c.args.ceiling.now.value c.args.limit (length c.args.plan.now) (length c.args.saved.now) (length c.args.decisions.now) in
-    let p = passed w.count q (sym (c.opening-refusal.ensures charges prunes) ∙ c.in-default.is) in
-    both_ways (enough c.args.saved.now c.args.decisions.now) c.in-default-explore.ensures.answer (enough_there c.args.saved.now c.args.decisions.now p.saved p.decisions)
+    let p = passed w.count q (sym (c.opening_refusal.ensures charges prunes) ∙ c.in_default.is) in
+    both_ways (enough c.args.saved.now c.args.decisions.now) c.in_default-explore.ensures.answer (enough_there c.args.saved.now c.args.decisions.now p.saved p.decisions)
 
 pub finish-requires : goal.finish-requires
 finish-requires g c =
@@ -39,7 +39,7 @@ finish-requires g c =
     let charges = g.T.Tariff.charges c.args.tariff.now in
     let prunes = g.P.Pruner.prunes c.args.pruner.now in
     let q = request charges prunes c.args.ceiling.now.value c.args.limit (length c.args.plan.now) (length c.args.saved.now) (length c.args.decisions.now) in
-    (passed w.count q (sym (c.opening-refusal.ensures charges prunes) ∙ c.in-default.is)).lines
+    (passed w.count q (sym (c.opening_refusal.ensures charges prunes) ∙ c.in_default.is)).lines
 
 pub returns : goal.returns
 returns g c =
@@ -49,7 +49,7 @@ returns g c =
     let task = sheet_given w charges in
     let q = request charges prunes c.args.ceiling.now.value c.args.limit (length c.args.plan.now) (length c.args.saved.now) (length c.args.decisions.now) in
     let rows = take w.count w.rows in
-    let open' : checked w.count q ≡ None = sym (c.opening-refusal.ensures charges prunes) ∙ c.in-default.is in
+    let open' : checked w.count q ≡ None = sym (c.opening_refusal.ensures charges prunes) ∙ c.in_default.is in
     let t = searched task prunes c.args.limit c.args.ceiling.now.value (sets_in w) in
     let says = c.in-Some-explore.ensures.answer.1 in
     record {

@@ -7,41 +7,41 @@ use Rattle.bound.proofs.Filling.{free_few}
 use Rattle.bound.proofs.Summing.{level_is, lower_is, slots_are, upper_is}
 use Rattle.bound.proofs.build.figures_of.Goals as goal
 
-pub running-sums-level-requires : goal.running-sums-level-requires
-running-sums-level-requires g c = let h = free_few c.args.work.now in let e = c.requires.cases in (omega arith, (omega arith, omega arith))
+pub running_sums-level-requires : goal.running_sums-level-requires
+running_sums-level-requires g c = let h = free_few c.args.work.now in let e = c.requires.cases in (omega arith, (omega arith, omega arith))
 
-pub running-sums-lower-requires : goal.running-sums-lower-requires
-running-sums-lower-requires g c = let h = free_few c.args.work.now in let e = c.requires.cases in (omega arith, (omega arith, omega arith))
+pub running_sums-lower-requires : goal.running_sums-lower-requires
+running_sums-lower-requires g c = let h = free_few c.args.work.now in let e = c.requires.cases in (omega arith, (omega arith, omega arith))
 
-pub running-sums-upper-requires : goal.running-sums-upper-requires
-running-sums-upper-requires g c = let h = free_few c.args.work.now in let e = c.requires.cases in (omega arith, (omega arith, omega arith))
+pub running_sums-upper-requires : goal.running_sums-upper-requires
+running_sums-upper-requires g c = let h = free_few c.args.work.now in let e = c.requires.cases in (omega arith, (omega arith, omega arith))
 
 pub returns : goal.returns
 returns g c =
     let w = c.args.work.now in
     let charges = g.T.Tariff.charges c.args.tariff.now in
     let word = c.args.word in
-    let ns = c.needs-by-place-needs.result in
-    let qs = c.prices-by-place-prices.result in
-    let placed = c.needs-by-place-needs.ensures in
-    let priced = c.prices-by-place-prices.ensures in
+    let ns = c.needs_by_place-needs.result in
+    let qs = c.prices_by_place-prices.result in
+    let placed = c.needs_by_place-needs.ensures in
+    let priced = c.prices_by_place-prices.ensures in
     let few = free_few w in
     let n = c.requires.cases in
     let enough : length (free_of (rows_in w)) ≤ length (union (rows_in w)) = let e = c.requires.enough in omega arith in
-    let fixed = to_z-of_z w64 c.sum-of-fixed-fixed.result (search rules) in
+    let fixed = to_z-of_z w64 c.sum_of_fixed-fixed.result (search rules) in
     record {
       small = record {
         cases = omega arith;
-        fixed = subst (Within 16000000000000) (sym fixed) c.sum-of-fixed-fixed.ensures.small;
-        level = c.running-sums-level.ensures.small;
-        lower = c.running-sums-lower.ensures.small;
-        upper = c.running-sums-upper.ensures.small;
+        fixed = subst (Within 16000000000000) (sym fixed) c.sum_of_fixed-fixed.ensures.small;
+        level = c.running_sums-level.ensures.small;
+        lower = c.running_sums-lower.ensures.small;
+        upper = c.running_sums-upper.ensures.small;
       };
       cases = n;
-      fixed = fixed ∙ c.sum-of-fixed-fixed.ensures.sum;
-      level = λ k l. level_is w charges word ns qs c.requires.slots placed priced enough k (get_or c.running-sums-level.result k (pos 0)) (omega arith) (c.running-sums-level.ensures.sums k l);
-      lower = λ k l. lower_is w charges word ns qs c.requires.slots placed priced enough k (get_or c.running-sums-lower.result k (pos 0)) (omega arith) (c.running-sums-lower.ensures.sums k (omega arith));
-      upper = λ k l. upper_is w charges word ns qs c.requires.slots placed priced enough k (get_or c.running-sums-upper.result k (pos 0)) (omega arith) (c.running-sums-upper.ensures.sums k (omega arith));
-      ranks = c.case-ranks-ranks.ensures;
-      slots = λ s l. slots_are w charges word ns qs c.requires.slots placed priced enough s (get_or c.slot-ranks-slots.result s 0) (c.slot-ranks-slots.ensures s l);
+      fixed = fixed ∙ c.sum_of_fixed-fixed.ensures.sum;
+      level = λ k l. level_is w charges word ns qs c.requires.slots placed priced enough k (get_or c.running_sums-level.result k (pos 0)) (omega arith) (c.running_sums-level.ensures.sums k l);
+      lower = λ k l. lower_is w charges word ns qs c.requires.slots placed priced enough k (get_or c.running_sums-lower.result k (pos 0)) (omega arith) (c.running_sums-lower.ensures.sums k (omega arith));
+      upper = λ k l. upper_is w charges word ns qs c.requires.slots placed priced enough k (get_or c.running_sums-upper.result k (pos 0)) (omega arith) (c.running_sums-upper.ensures.sums k (omega arith));
+      ranks = c.case_ranks-ranks.ensures;
+      slots = λ s l. slots_are w charges word ns qs c.requires.slots placed priced enough s (get_or c.slot_ranks-slots.result s 0) (c.slot_ranks-slots.ensures s l);
     }

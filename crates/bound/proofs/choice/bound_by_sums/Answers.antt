@@ -5,19 +5,19 @@ use Rattle.bound.proofs.choice.bound_by_sums.Goals as goal
 
 pub returns-then-j-i : goal.returns-then-j-i
 returns-then-j-i c =
-    let z = c.whole-bound.result in
-    to_z-of_z w64 z (search rules) ∙ is_same c.args.figures.now c.args.i c.args.j c.args.charge z c.if-j-i.true c.whole-bound.ensures
+    let z = c.whole_bound.result in
+    to_z-of_z w64 z (search rules) ∙ is_same c.args.figures.now c.args.i c.args.j c.args.charge z c.if-j-i.true c.whole_bound.ensures
 
 pub returns-then-i-j : goal.returns-then-i-j
 returns-then-i-j c =
     let w = c.args.charge in
-    let z = c.bound-at-later.result in
+    let z = c.bound_at_later.result in
     to_z-of_z w64 z (search rules)
-    ∙ is_later c.args.figures.now c.args.i c.args.j w z (to_z w64 (of_z w64 w)) c.if-i-j.true c.bound-at-later.ensures (to_z-of_z w64 w c.ranges.charge)
+    ∙ is_later c.args.figures.now c.args.i c.args.j w z (to_z w64 (of_z w64 w)) c.if-i-j.true c.bound_at_later.ensures (to_z-of_z w64 w c.ranges.charge)
 
 pub returns : goal.returns
 returns c =
     let w = c.args.charge in
-    let z = c.bound-at-earlier.result in
+    let z = c.bound_at_earlier.result in
     to_z-of_z w64 z (search rules)
-    ∙ is_earlier c.args.figures.now c.args.i c.args.j w z (to_z w64 (of_z w64 w)) (omega arith) c.bound-at-earlier.ensures (to_z-of_z w64 w c.ranges.charge)
+    ∙ is_earlier c.args.figures.now c.args.i c.args.j w z (to_z w64 (of_z w64 w)) (omega arith) c.bound_at_earlier.ensures (to_z-of_z w64 w c.ranges.charge)

@@ -3,7 +3,7 @@ use Rattle.bound.specs.Bound.{free, free_of}
 use Rattle.bound.specs.Tables.{rows_in}
 use Rattle.bound.proofs.Counting.{all_rows, passed_rows}
 use Rattle.bound.proofs.free.free_cases.Goals as goal
-use Rattle.bound.proofs.free.free_cases.Goals.{then-not-is-single, else-not-is-single}
+use Rattle.bound.proofs.free.free_cases.Goals.{then-not-is_single, else-not-is_single}
 
 pub loop-i-preserved : goal.loop-i-preserved
 loop-i-preserved c =
@@ -11,9 +11,9 @@ loop-i-preserved c =
     let i = c.loop-i.i in
     let before = length (free_of (take i (rows_in w))) in
     let more = passed_rows w free i (omega arith) in
-    elim c.if-not-is-single.branch [
-      | then-not-is-single v ↦ (omega (arith, v.n-is), let t = ap (λ b. before + cond (not b) 1 0) v.if-not-is-single.ensures in omega (arith, v.n-is, t, more))
-      | else-not-is-single v ↦ (omega (arith, v.n-is), let t = ap (λ b. before + cond (not b) 1 0) v.if-not-is-single.ensures in omega (arith, v.n-is, t, more))
+    elim c.if-not-is_single.branch [
+      | then-not-is_single v ↦ (omega (arith, v.n-is), let t = ap (λ b. before + cond (not b) 1 0) v.if-not-is_single.ensures in omega (arith, v.n-is, t, more))
+      | else-not-is_single v ↦ (omega (arith, v.n-is), let t = ap (λ b. before + cond (not b) 1 0) v.if-not-is_single.ensures in omega (arith, v.n-is, t, more))
     ]
 
 pub returns : goal.returns

@@ -6,7 +6,7 @@ use Rattle.bound.specs.Tables.{rows_in}
 use Rattle.pruners.proofs.Striking.{or_false}
 use Rattle.bound.proofs.Counting.{all_rows, union_more}
 use Rattle.bound.proofs.free.free_slots.Goals as goal
-use Rattle.bound.proofs.free.free_slots.Goals.{then-not-is-single, else-not-is-single}
+use Rattle.bound.proofs.free.free_slots.Goals.{then-not-is_single, else-not-is_single}
 
 pub loop-i-init : goal.loop-i-init
 loop-i-init c s = has_none s
@@ -18,18 +18,18 @@ loop-i-preserved c s =
     let d = get_or w.sets i 0 in
     let before = in_some (free_of (take i (rows_in w))) s in
     let more = union_more w i s (omega arith) in
-    elim c.if-not-is-single.branch [
-      | then-not-is-single v ↦
+    elim c.if-not-is_single.branch [
+      | then-not-is_single v ↦
           ap (λ x. has x s) v.word-is
           ∙ has_or c.loop-i.word d s
           ∙ ap (λ b. b || has d s) (c.loop-i.invariant s)
-          ∙ ap (λ b. before || (not b && has d s)) v.if-not-is-single.ensures
+          ∙ ap (λ b. before || (not b && has d s)) v.if-not-is_single.ensures
           ∙ sym more
-      | else-not-is-single v ↦
+      | else-not-is_single v ↦
           ap (λ x. has x s) v.word-is
           ∙ c.loop-i.invariant s
           ∙ sym (or_false before)
-          ∙ ap (λ b. before || (not b && has d s)) v.if-not-is-single.ensures
+          ∙ ap (λ b. before || (not b && has d s)) v.if-not-is_single.ensures
           ∙ sym more
     ]
 

@@ -11,72 +11,72 @@ use Rattle.bound.proofs.Strikes.{dead_after, dead_empty, dead_few, dead_over, ne
 use Rattle.bound.proofs.Summing.{union_is}
 use Rattle.bound.proofs.pruner.bound_sets.Goals as goal
 
-pub struck-sets-next-requires : goal.struck-sets-next-requires
-struck-sets-next-requires g c =
+pub struck_sets-next-requires : goal.struck_sets-next-requires
+struck_sets-next-requires g c =
     let w = c.args.work.now in
-    let n = c.free-cases-n.ensures in
-    let enough = ltb-false (length (members c.free-slots-word.result)) c.free-cases-n.result (sym c.if-too-few.ensures) in
-    let slots : length (members c.free-slots-word.result) ≡ length (union (rows_in w)) = ap length (union_is (rows_in w) c.free-slots-word.result c.free-slots-word.ensures) in
-    record { right = c.figures-of-figures.ensures; enough = omega arith }
+    let n = c.free_cases-n.ensures in
+    let enough = ltb-false (length (members c.free_slots-word.result)) c.free_cases-n.result (sym c.if-too_few.ensures) in
+    let slots : length (members c.free_slots-word.result) ≡ length (union (rows_in w)) = ap length (union_is (rows_in w) c.free_slots-word.result c.free_slots-word.ensures) in
+    record { right = c.figures_of-figures.ensures; enough = omega arith }
 
-pub returns-then-any-empty : goal.returns-then-any-empty
-returns-then-any-empty g c =
+pub returns-then-any_empty : goal.returns-then-any_empty
+returns-then-any_empty g c =
     let w = c.args.work.now in
-    record { rest = tt; meaning = dead_empty (given_in w (g.T.Tariff.charges c.args.tariff.now)) c.args.ceiling (sets_in w) (sym c.if-any-empty.ensures) }
+    record { rest = tt; meaning = dead_empty (given_in w (g.T.Tariff.charges c.args.tariff.now)) c.args.ceiling (sets_in w) (sym c.if-any_empty.ensures) }
 
-pub returns-then-too-few : goal.returns-then-too-few
-returns-then-too-few g c =
+pub returns-then-too_few : goal.returns-then-too_few
+returns-then-too_few g c =
     let w = c.args.work.now in
-    let n = c.free-cases-n.ensures in
-    let few = ltb-true (length (members c.free-slots-word.result)) c.free-cases-n.result (sym c.if-too-few.ensures) in
-    let slots : length (members c.free-slots-word.result) ≡ length (union (rows_in w)) = ap length (union_is (rows_in w) c.free-slots-word.result c.free-slots-word.ensures) in
+    let n = c.free_cases-n.ensures in
+    let few = ltb-true (length (members c.free_slots-word.result)) c.free_cases-n.result (sym c.if-too_few.ensures) in
+    let slots : length (members c.free_slots-word.result) ≡ length (union (rows_in w)) = ap length (union_is (rows_in w) c.free_slots-word.result c.free_slots-word.ensures) in
     record {
       rest = tt;
       meaning = dead_few (given_in w (g.T.Tariff.charges c.args.tariff.now)) c.args.ceiling (sets_in w) (omega arith);
     }
 
-pub returns-then-ceiling-whole-bound : goal.returns-then-ceiling-whole-bound
-returns-then-ceiling-whole-bound g c =
+pub returns-then-ceiling-whole_bound : goal.returns-then-ceiling-whole_bound
+returns-then-ceiling-whole_bound g c =
     let w = c.args.work.now in
     let charges = g.T.Tariff.charges c.args.tariff.now in
-    let n = c.free-cases-n.ensures in
-    let enough = ltb-false (length (members c.free-slots-word.result)) c.free-cases-n.result (sym c.if-too-few.ensures) in
-    let slots : length (members c.free-slots-word.result) ≡ length (union (rows_in w)) = ap length (union_is (rows_in w) c.free-slots-word.result c.free-slots-word.ensures) in
-    let z = c.whole-bound.result in
+    let n = c.free_cases-n.ensures in
+    let enough = ltb-false (length (members c.free_slots-word.result)) c.free_cases-n.result (sym c.if-too_few.ensures) in
+    let slots : length (members c.free_slots-word.result) ≡ length (union (rows_in w)) = ap length (union_is (rows_in w) c.free_slots-word.result c.free_slots-word.ensures) in
+    let z = c.whole_bound.result in
     let fits : SFits w64 z = search rules in
     record {
       rest = tt;
       meaning = dead_over (given_in w charges) c.args.ceiling (sets_in w) z
-          (c.whole-bound.ensures ∙ whole_right w charges c.figures-of-figures.result c.figures-of-figures.ensures (omega arith))
-          (sym (ap₂ lt_z (to_z-of_z w64 c.args.ceiling c.ranges.ceiling) (to_z-of_z w64 z fits)) ∙ c.if-ceiling-whole-bound.true);
+          (c.whole_bound.ensures ∙ whole_right w charges c.figures_of-figures.result c.figures_of-figures.ensures (omega arith))
+          (sym (ap₂ lt_z (to_z-of_z w64 c.args.ceiling c.ranges.ceiling) (to_z-of_z w64 z fits)) ∙ c.if-ceiling-whole_bound.true);
     }
 
-pub returns-then-any-empty-2 : goal.returns-then-any-empty-2
-returns-then-any-empty-2 g c =
+pub returns-then-any_empty-2 : goal.returns-then-any_empty-2
+returns-then-any_empty-2 g c =
     let w = c.args.work.now in
     let charges = g.T.Tariff.charges c.args.tariff.now in
     record {
       rest = tt;
-      meaning = dead_after (given_in w charges) c.args.ceiling (sets_in w) (take w.count c.struck-sets-next.result) (to_z w64 (of_z w64 c.args.ceiling))
-          c.struck-sets-next.ensures.struck (to_z-of_z w64 c.args.ceiling c.ranges.ceiling)
-          c.if-any-empty-2.ensures;
+      meaning = dead_after (given_in w charges) c.args.ceiling (sets_in w) (take w.count c.struck_sets-next.result) (to_z w64 (of_z w64 c.args.ceiling))
+          c.struck_sets-next.ensures.struck (to_z-of_z w64 c.args.ceiling c.ranges.ceiling)
+          c.if-any_empty-2.ensures;
     }
 
 pub returns : goal.returns
 returns g c =
     let w = c.args.work.now in
     let charges = g.T.Tariff.charges c.args.tariff.now in
-    let n = c.free-cases-n.ensures in
-    let enough = ltb-false (length (members c.free-slots-word.result)) c.free-cases-n.result (sym c.if-too-few.ensures) in
-    let slots : length (members c.free-slots-word.result) ≡ length (union (rows_in w)) = ap length (union_is (rows_in w) c.free-slots-word.result c.free-slots-word.ensures) in
-    let z = c.whole-bound.result in
+    let n = c.free_cases-n.ensures in
+    let enough = ltb-false (length (members c.free_slots-word.result)) c.free_cases-n.result (sym c.if-too_few.ensures) in
+    let slots : length (members c.free_slots-word.result) ≡ length (union (rows_in w)) = ap length (union_is (rows_in w) c.free_slots-word.result c.free_slots-word.ensures) in
+    let z = c.whole_bound.result in
     let fits : SFits w64 z = search rules in
     record {
-      rest = c.struck-sets-next.ensures.rest;
-      meaning = new_sets (given_in w charges) c.args.ceiling (sets_in w) (sym c.if-any-empty.ensures) (omega arith) z
-          (c.whole-bound.ensures ∙ whole_right w charges c.figures-of-figures.result c.figures-of-figures.ensures (omega arith))
-          (sym (ap₂ lt_z (to_z-of_z w64 c.args.ceiling c.ranges.ceiling) (to_z-of_z w64 z fits)) ∙ c.if-ceiling-whole-bound.false)
-          (take w.count c.struck-sets-next.result) (to_z w64 (of_z w64 c.args.ceiling))
-          c.struck-sets-next.ensures.struck (to_z-of_z w64 c.args.ceiling c.ranges.ceiling)
-          c.if-any-empty-2.ensures;
+      rest = c.struck_sets-next.ensures.rest;
+      meaning = new_sets (given_in w charges) c.args.ceiling (sets_in w) (sym c.if-any_empty.ensures) (omega arith) z
+          (c.whole_bound.ensures ∙ whole_right w charges c.figures_of-figures.result c.figures_of-figures.ensures (omega arith))
+          (sym (ap₂ lt_z (to_z-of_z w64 c.args.ceiling c.ranges.ceiling) (to_z-of_z w64 z fits)) ∙ c.if-ceiling-whole_bound.false)
+          (take w.count c.struck_sets-next.result) (to_z w64 (of_z w64 c.args.ceiling))
+          c.struck_sets-next.ensures.struck (to_z-of_z w64 c.args.ceiling c.ranges.ceiling)
+          c.if-any_empty-2.ensures;
     }

@@ -16,8 +16,8 @@ loop-i-init g c = (
   record { low = omega (arith, ints); high = omega (arith, ints) },
 )
 
-pub loop-i-preserved-then-is-single : goal.loop-i-preserved-then-is-single
-loop-i-preserved-then-is-single g c =
+pub loop-i-preserved-then-is_single : goal.loop-i-preserved-then-is_single
+loop-i-preserved-then-is_single g c =
     let w = c.args.work.now in
     let given = given_in w (g.T.Tariff.charges c.args.tariff.now) in
     let i = c.loop-i.i in
@@ -25,9 +25,9 @@ loop-i-preserved-then-is-single g c =
     let rest = fixed_sum given (drop i (rows_in w)) in
     let m = least_in given r.need r.slots in
     let d : fixed_sum given (drop (i - 1) (rows_in w)) ≡ (m +ℤ rest) =
-    fixed_down given w i (omega arith) (omega arith) ∙ cond-true (single r.slots) (m +ℤ rest) rest (sym c.if-is-single.ensures) in
-    let e : c.charge-of-sum.result ≡ m = c.charge-of-sum.ensures.charge in
-    let s = c.charge-of-sum.ensures.small in
+    fixed_down given w i (omega arith) (omega arith) ∙ cond-true (single r.slots) (m +ℤ rest) rest (sym c.if-is_single.ensures) in
+    let e : c.charge_of-sum.result ≡ m = c.charge_of-sum.ensures.charge in
+    let s = c.charge_of-sum.ensures.small in
     let b = c.loop-i.invariant.2 in
     (omega arith, omega (arith, ints), record { low = omega (arith, ints); high = omega (arith, ints) })
 
@@ -40,6 +40,6 @@ loop-i-preserved g c =
     let rest = fixed_sum given (drop i (rows_in w)) in
     let m = least_in given r.need r.slots in
     let d : fixed_sum given (drop (i - 1) (rows_in w)) ≡ rest =
-    fixed_down given w i (omega arith) (omega arith) ∙ cond-false (single r.slots) (m +ℤ rest) rest (sym c.if-is-single.ensures) in
+    fixed_down given w i (omega arith) (omega arith) ∙ cond-false (single r.slots) (m +ℤ rest) rest (sym c.if-is_single.ensures) in
     let b = c.loop-i.invariant.2 in
     (omega arith, omega (arith, ints), record { low = omega (arith, ints); high = omega (arith, ints) })

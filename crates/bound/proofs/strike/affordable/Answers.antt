@@ -4,8 +4,8 @@ use Rattle.tariff.specs.Charges.{Within}
 use Rattle.bound.proofs.Filling.{charge_small}
 use Rattle.bound.proofs.strike.affordable.Goals as goal
 
-pub bound-under-requires : goal.bound-under-requires
-bound-under-requires g c =
+pub bound_under-requires : goal.bound_under-requires
+bound_under-requires g c =
     let w = c.args.work.now in
     let charges = g.T.Tariff.charges c.args.tariff.now in
     let a = get_or w.needs c.args.case 0 in

@@ -12,10 +12,10 @@ returns g c =
     let charges = g.T.Tariff.charges call.tariff in
     let prunes = g.P.Pruner.prunes call.pruner in
     let list = c.args.plan.now in
-    let saved = take (c.at-most-most-saved.result - 0) c.blank-saved-saved.result in
-    let decisions = take (c.at-most-most-decisions.result - 0) c.blank-decisions-decisions.result in
-    let a : ltb (length saved) 1024 ≡ ltb call.saved 1024 = places_alike c.blank-saved-saved.result call.saved 1024 c.at-most-most-saved.result 1024 c.blank-saved-saved.ensures c.at-most-most-saved.ensures (omega arith) in
-    let b : ltb (length decisions) 16 ≡ ltb call.decisions 16 = places_alike c.blank-decisions-decisions.result call.decisions 16 c.at-most-most-decisions.result 16 c.blank-decisions-decisions.ensures c.at-most-most-decisions.ensures (omega arith) in
+    let saved = take (c.at_most-most_saved.result - 0) c.blank_saved-saved.result in
+    let decisions = take (c.at_most-most_decisions.result - 0) c.blank_decisions-decisions.result in
+    let a : ltb (length saved) 1024 ≡ ltb call.saved 1024 = places_alike c.blank_saved-saved.result call.saved 1024 c.at_most-most_saved.result 1024 c.blank_saved-saved.ensures c.at_most-most_saved.ensures (omega arith) in
+    let b : ltb (length decisions) 16 ≡ ltb call.decisions 16 = places_alike c.blank_decisions-decisions.result call.decisions 16 c.at_most-most_decisions.result 16 c.blank_decisions-decisions.ensures c.at_most-most_decisions.ensures (omega arith) in
     let z = to_z w64 (of_z w64 call.ceiling) in
     let is : z ≡ call.ceiling = to_z-of_z w64 call.ceiling (search rules) in
     record {

@@ -24,14 +24,14 @@ returns g c =
     let made = c.new-cases.ensures in
     let count : w.count ≡ cases_of s = count_is w s made.sets in
     let few : cases_of s ≤ 16 = omega arith in
-    let list = take (c.at-most-lines.result - 0) c.blank-lines-plan.result in
-    let a : ltb (length list) (cases_of s) ≡ ltb call.lines (cases_of s) = places_alike c.blank-lines-plan.result call.lines 16 c.at-most-lines.result (cases_of s) c.blank-lines-plan.ensures c.at-most-lines.ensures few in
-    let result : c.solve-into-result.result ≡ solved s q =
-    c.solve-into-result.ensures.said ∙ solved_alike charges prunes call.ceiling call.limit call.lines call.saved call.decisions (length list) call.saved call.decisions s a refl refl in
-    let plan : c.solve-into-result.new.plan ≡ plan_after s q list =
-    c.solve-into-result.ensures.plan ∙ plan_alike charges prunes call.ceiling call.limit call.lines call.saved call.decisions (length list) call.saved call.decisions s a refl refl list in
-    let told : said c.reply-with.result ≡ solve_outcome (solved s q) (best_lines s q) =
-    told_lines s q c.solve-into-result.result w.count c.solve-into-result.new.plan list _ (said c.reply-with.result) result count plan c.reply-with.ensures in
+    let list = take (c.at_most-lines.result - 0) c.blank_lines-plan.result in
+    let a : ltb (length list) (cases_of s) ≡ ltb call.lines (cases_of s) = places_alike c.blank_lines-plan.result call.lines 16 c.at_most-lines.result (cases_of s) c.blank_lines-plan.ensures c.at_most-lines.ensures few in
+    let result : c.solve_into-result.result ≡ solved s q =
+    c.solve_into-result.ensures.said ∙ solved_alike charges prunes call.ceiling call.limit call.lines call.saved call.decisions (length list) call.saved call.decisions s a refl refl in
+    let plan : c.solve_into-result.new.plan ≡ plan_after s q list =
+    c.solve_into-result.ensures.plan ∙ plan_alike charges prunes call.ceiling call.limit call.lines call.saved call.decisions (length list) call.saved call.decisions s a refl refl list in
+    let told : said c.reply_with.result ≡ solve_outcome (solved s q) (best_lines s q) =
+    told_lines s q c.solve_into-result.result w.count c.solve_into-result.new.plan list _ (said c.reply_with.result) result count plan c.reply_with.ensures in
     let proper : Proper (given_of s charges) (usable_sets s) =
     subst (λ (x : List ℕ). Proper (given_of s charges) x) made.sets
     (subst (λ (x : Given). Proper x (sets_in w)) (given_is w s charges made.needs made.prices) (proper_sheet w charges g.T.Tariff.greatest (g.met.T.Tariff.lawful call.tariff))) in

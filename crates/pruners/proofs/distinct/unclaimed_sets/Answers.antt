@@ -12,7 +12,7 @@ loop-i-preserved c =
     let next = c.loop-i.next in
     let es = unclaimed [] (take n ds) in
     let word = get_or es i 0 in
-    let written = c.strike-case.ensures in
+    let written = c.strike_case.ensures in
     let long : length es ≡ n = length_unclaimed [] (take n ds) ∙ length-take-le n ds (omega arith) in (
       ap length written ∙ length-set next i word ∙ c.loop-i.invariant.0,
       ap (take (i + 1)) written ∙ take_more_set next i word (omega arith) ∙ ap (λ xs. xs ++ word ∷ []) c.loop-i.invariant.1 ∙ sym (take_more es i 0 (omega arith)),

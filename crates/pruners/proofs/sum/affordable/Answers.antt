@@ -6,12 +6,12 @@ use Rattle.slot_set.specs.Sets.{has, keep}
 use Rattle.pruners.proofs.Affording.{passed_none, passed_in, passed_out, passed_all}
 use Rattle.pruners.proofs.Least.{charge_small}
 use Rattle.pruners.proofs.sum.affordable.Goals as goal
-use Rattle.pruners.proofs.sum.affordable.Goals.{then_in_set+then_within, else-in-set, else_in_set_via_then_in_set+else_within, else-in-set-via-else-in-set}
+use Rattle.pruners.proofs.sum.affordable.Goals.{then_in_set+then_within, else-in_set, else_in_set_via_then_in_set+else_within, else-in_set-via-else-in_set}
 
 pub within-requires : goal.within-requires
 within-requires g c =
     let b = charge_small (g.T.Tariff.charges c.args.tariff.now) g.T.Tariff.greatest (g.met.T.Tariff.lawful c.args.tariff.now) c.args.need (get_or c.args.prices.now c.loop-s.s (pos 0)) in
-    let e = c.charge-at.ensures in
+    let e = c.charge_at.ensures in
     record {
       others = record { low = omega (arith, ints, c.requires.low); high = omega (arith, ints, c.requires.high) };
       charge = record { low = omega (arith, ints, b.low, e); high = omega (arith, ints, b.high, e) };
@@ -32,16 +32,16 @@ loop-s-preserved g c =
     let x : ℕ → Bool = λ t. has d t && f t in
     let tested : (z : ℤ) (b : Bool) → SFits w64 z → z ≡ charge s → b ≡ le_z (o +ℤ to_z w64 (of_z w64 z)) k → f s ≡ b =
     λ z b fits e t. sym (t ∙ ap (λ y. le_z (o +ℤ y) k) (to_z-of_z w64 z fits ∙ e)) in
-    elim c.if-in-set.branch [
+    elim c.if-in_set.branch [
       | then_in_set+then_within w ↦
-          let there : true ≡ has d s = w.if-in-set.ensures in
-          passed_in x s c.loop-s.word c.if-in-set.word (omega arith) w.word-is
-          (and_from (has d s) (f s) (sym there) (tested w.charge-at.result true (search rules) w.charge-at.ensures w.if-within.ensures))
+          let there : true ≡ has d s = w.if-in_set.ensures in
+          passed_in x s c.loop-s.word c.if-in_set.word (omega arith) w.word-is
+          (and_from (has d s) (f s) (sym there) (tested w.charge_at.result true (search rules) w.charge_at.ensures w.if-within.ensures))
           c.loop-s.invariant
-      | else-in-set w ↦ passed_out x s c.loop-s.word c.if-in-set.word w.word-is
-          (elim w.else-in-set.branch [
-            | else_in_set_via_then_in_set+else_within v ↦ and_right (has d s) (f s) (tested v.charge-at.result false (search rules) v.charge-at.ensures v.if-within.ensures)
-            | else-in-set-via-else-in-set v ↦ let there : false ≡ has d s = v.if-in-set.ensures in and_left (has d s) (f s) (sym there)
+      | else-in_set w ↦ passed_out x s c.loop-s.word c.if-in_set.word w.word-is
+          (elim w.else-in_set.branch [
+            | else_in_set_via_then_in_set+else_within v ↦ and_right (has d s) (f s) (tested v.charge_at.result false (search rules) v.charge_at.ensures v.if-within.ensures)
+            | else-in_set-via-else-in_set v ↦ let there : false ≡ has d s = v.if-in_set.ensures in and_left (has d s) (f s) (sym there)
           ])
           c.loop-s.invariant
     ]

@@ -8,14 +8,14 @@ use Rattle.pruners.proofs.sum.least_charge.Goals as goal
 pub loop-s-init : goal.loop-s-init
 loop-s-init g c = (omega arith, least_none (λ s. g.T.Tariff.charges c.args.tariff.now c.args.need (get_or c.args.prices.now s (pos 0))) c.args.set)
 
-pub loop-s-preserved-then-in-set : goal.loop-s-preserved-then-in-set
-loop-s-preserved-then-in-set g c =
+pub loop-s-preserved-then-in_set : goal.loop-s-preserved-then-in_set
+loop-s-preserved-then-in_set g c =
     let w : ℕ → ℤ = λ s. g.T.Tariff.charges c.args.tariff.now c.args.need (get_or c.args.prices.now s (pos 0)) in
     let s = c.loop-s.s in
-    let z = c.charge-at.result in
+    let z = c.charge_at.result in
     let r = c.lesser-least.result in
-    let charge : z ≡ w (s - 1) = c.charge-at.ensures in
-    let there : true ≡ has c.args.set (s - 1) = c.if-in-set.ensures in (
+    let charge : z ≡ w (s - 1) = c.charge_at.ensures in
+    let there : true ≡ has c.args.set (s - 1) = c.if-in_set.ensures in (
       omega arith,
       least_in_set w c.args.set s c.loop-s.found _ _ r (to_z w64 (of_z w64 r))
           c.lesser-least.ensures (to_z-of_z w64 r (search rules)) (to_z-of_z w64 z (search rules) ∙ charge)
@@ -25,7 +25,7 @@ loop-s-preserved-then-in-set g c =
 pub loop-s-preserved : goal.loop-s-preserved
 loop-s-preserved g c =
     let w : ℕ → ℤ = λ s. g.T.Tariff.charges c.args.tariff.now c.args.need (get_or c.args.prices.now s (pos 0)) in
-    let out : false ≡ has c.args.set (c.loop-s.s - 1) = c.if-in-set.ensures in
+    let out : false ≡ has c.args.set (c.loop-s.s - 1) = c.if-in_set.ensures in
     (omega arith, least_not_in_set w c.args.set c.loop-s.s c.loop-s.found _ (omega arith) c.loop-s.invariant.0 (sym out) c.loop-s.invariant.1)
 
 pub returns : goal.returns

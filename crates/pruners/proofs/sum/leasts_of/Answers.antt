@@ -10,10 +10,10 @@ loop-i-preserved g c =
     let w = c.args.work.now in
     let i = c.loop-i.i in
     let ms = c.loop-i.least in
-    let z = c.least-charge.result in
+    let z = c.least_charge.result in
     let m = to_z w64 (of_z w64 z) in
     let least : ℕ → ℤ = λ k. least_in (given_in w (g.T.Tariff.charges c.args.tariff.now)) (get_or w.needs k 0) (get_or w.sets k 0) in
-    let here : z ≡ least i = c.least-charge.ensures in
+    let here : z ≡ least i = c.least_charge.ensures in
     let before : (k : ℕ) → k < i → get_or ms k (pos 0) ≡ least k = c.loop-i.invariant.1 in (
       length-set ms i m ∙ c.loop-i.invariant.0,
       below_more (λ k. get_or (set ms i m) k (pos 0) ≡ least k) i

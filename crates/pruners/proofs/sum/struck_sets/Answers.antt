@@ -7,8 +7,8 @@ use Rattle.pruners.proofs.Affording.{struck_at, length_struck}
 use Rattle.pruners.proofs.Totals.{each_small}
 use Rattle.pruners.proofs.sum.struck_sets.Goals as goal
 
-pub overflow-sub-others : goal.overflow-sub-others
-overflow-sub-others g c =
+pub overflow_sub-others : goal.overflow_sub-others
+overflow_sub-others g c =
     let m = each_small c.args.work.now (g.T.Tariff.charges c.args.tariff.now) g.T.Tariff.greatest (g.met.T.Tariff.lawful c.args.tariff.now) c.args.least.now c.requires.least c.loop-i.i (omega arith) in
     omega (arith, ints)
 

@@ -8,16 +8,16 @@ use Rattle.search.proofs.saving.put_back.Goals as goal
 
 pub loop-saved-preserved : goal.loop-saved-preserved
 loop-saved-preserved c =
-    let e = c.take-latest-entry.result in
-    let left = held c.take-latest-entry.new.stack in
-    let fit : c.take-latest-entry.new.stack.height ≤ room c.take-latest-entry.new.stack = omega arith in
-    let len = length_entries c.take-latest-entry.new.stack.places.now c.take-latest-entry.new.stack.height fit in
+    let e = c.take_latest-entry.result in
+    let left = held c.take_latest-entry.new.stack in
+    let fit : c.take_latest-entry.new.stack.height ≤ room c.take_latest-entry.new.stack = omega arith in
+    let len = length_entries c.take_latest-entry.new.stack.places.now c.take_latest-entry.new.stack.height fit in
     let high : c.args.mark ≤ length left = omega (arith, len) in (
       ap (undone c.args.mark left) c.restore.ensures
           ∙ sym (undone_pop c.args.mark e left c.loop-saved.sets high)
-          ∙ ap (λ es. undone c.args.mark es c.loop-saved.sets) (sym c.take-latest-entry.ensures.popped) ∙ c.loop-saved.invariant.0,
+          ∙ ap (λ es. undone c.args.mark es c.loop-saved.sets) (sym c.take_latest-entry.ensures.popped) ∙ c.loop-saved.invariant.0,
       sym (kept_pop c.args.mark e left high)
-          ∙ ap (kept c.args.mark) (sym c.take-latest-entry.ensures.popped) ∙ c.loop-saved.invariant.1,
+          ∙ ap (kept c.args.mark) (sym c.take_latest-entry.ensures.popped) ∙ c.loop-saved.invariant.1,
       omega arith,
       fit,
       ap length c.restore.ensures ∙ length-set c.loop-saved.sets e.row e.slots ∙ c.loop-saved.invariant.4,

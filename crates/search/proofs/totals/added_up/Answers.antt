@@ -14,11 +14,11 @@ loop-i-init g c = (
   omega (arith, ints),
 )
 
-pub overflow-add-sum : goal.overflow-add-sum
-overflow-add-sum g c =
+pub overflow_add-sum : goal.overflow_add-sum
+overflow_add-sum g c =
     let law = g.met.T.Tariff.lawful c.args.tariff.now in
     let s = law.small in
-    let b = charge_within (g.T.Tariff.charges c.args.tariff.now) g.T.Tariff.greatest law (get_or c.args.sheet.now.needs (c.loop-i.i - 1) 0) (to_z w64 (of_z w64 c.price-of-price.result)) in
+    let b = charge_within (g.T.Tariff.charges c.args.tariff.now) g.T.Tariff.greatest law (get_or c.args.sheet.now.needs (c.loop-i.i - 1) 0) (to_z w64 (of_z w64 c.price_of-price.result)) in
     let e = c.charge-charge.ensures in
     omega (arith, ints)
 
@@ -26,15 +26,15 @@ pub loop-i-preserved : goal.loop-i-preserved
 loop-i-preserved g c =
     let law = g.met.T.Tariff.lawful c.args.tariff.now in
     let s = law.small in
-    let b = charge_within (g.T.Tariff.charges c.args.tariff.now) g.T.Tariff.greatest law (get_or c.args.sheet.now.needs (c.loop-i.i - 1) 0) (to_z w64 (of_z w64 c.price-of-price.result)) in
+    let b = charge_within (g.T.Tariff.charges c.args.tariff.now) g.T.Tariff.greatest law (get_or c.args.sheet.now.needs (c.loop-i.i - 1) 0) (to_z w64 (of_z w64 c.price_of-price.result)) in
     let e = c.charge-charge.ensures in
-    let f : SFits w64 c.price-of-price.result = search rules in
+    let f : SFits w64 c.price_of-price.result = search rules in
     let p : c.charge-charge.result ≡ g.T.Tariff.charges c.args.tariff.now (get_or c.args.sheet.now.needs (c.loop-i.i - 1) 0) (get_or c.args.sheet.now.prices (get_or c.args.plan.now (c.loop-i.i - 1) 0) (pos 0)) =
-    e ∙ ap (g.T.Tariff.charges c.args.tariff.now (get_or c.args.sheet.now.needs (c.loop-i.i - 1) 0)) (to_z-of_z w64 c.price-of-price.result f ∙ c.price-of-price.ensures) in
+    e ∙ ap (g.T.Tariff.charges c.args.tariff.now (get_or c.args.sheet.now.needs (c.loop-i.i - 1) 0)) (to_z-of_z w64 c.price_of-price.result f ∙ c.price_of-price.ensures) in
     let r : SFits w64 c.charge-charge.result = search rules in
     let d = sum_down (at_slot (sheet_given c.args.sheet.now (g.T.Tariff.charges c.args.tariff.now))) c.args.sheet.now.needs c.args.plan.now c.args.sheet.now.count c.loop-i.i c.loop-i-test.true c.loop-i.invariant.0 (omega arith) (omega arith) in (
       omega arith,
-      sum_turn r (overflow-add-sum g c) p c.loop-i.invariant.1 d,
+      sum_turn r (overflow_add-sum g c) p c.loop-i.invariant.1 d,
       omega (arith, ints),
       omega (arith, ints),
     )

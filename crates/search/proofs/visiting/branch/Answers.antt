@@ -27,15 +27,15 @@ adopt-requires g c =
       part = part_at h.count c.in-Some.new h.sets (omega arith) (c.in-Some.ensures.part c.in-Some.new refl);
     }
 
-pub invariant-of-sheet : goal.invariant-of-sheet
-invariant-of-sheet g c =
+pub invariant_of-sheet : goal.invariant_of-sheet
+invariant_of-sheet g c =
     let h = c.args.sheet.now in
-    let s : Sound h.opened c.put-back.new.saved c.put-back.new.sets =
-    sound_back h.opened c.args.saved.now c.put-back.new.saved h.sets c.put-back.new.sets c.args.mark c.requires.room c.put-back.ensures.low c.put-back.ensures.long c.put-back.ensures.saved c.put-back.ensures.sets in
-    (h.places, (s.sixteen, (h.few, (h.needed, (h.priced, (sound_open h.opened c.put-back.new.saved c.put-back.new.sets s, tt))))))
+    let s : Sound h.opened c.put_back.new.saved c.put_back.new.sets =
+    sound_back h.opened c.args.saved.now c.put_back.new.saved h.sets c.put_back.new.sets c.args.mark c.requires.room c.put_back.ensures.low c.put_back.ensures.long c.put_back.ensures.saved c.put_back.ensures.sets in
+    (h.places, (s.sixteen, (h.few, (h.needed, (h.priced, (sound_open h.opened c.put_back.new.saved c.put_back.new.sets s, tt))))))
 
-pub invariant-of-sheet-2 : goal.invariant-of-sheet-2
-invariant-of-sheet-2 g c =
+pub invariant_of-sheet-2 : goal.invariant_of-sheet-2
+invariant_of-sheet-2 g c =
     let h = c.args.sheet.now in
     let s : Sound h.opened c.adopt.new.saved c.adopt.new.sets = c.adopt.ensures.room in
     (h.places, (s.sixteen, (h.few, (h.needed, (h.priced, (sound_open h.opened c.adopt.new.saved c.adopt.new.sets s, tt))))))
@@ -44,15 +44,15 @@ invariant-of-sheet-2 g c =
 meant : (f : ℤ → Option (List ℕ)) (z : ℤ) → SFits w64 z → (o : Option (List ℕ)) → o ≡ f (to_z w64 (of_z w64 z)) → o ≡ f z
 meant f z k o e = e ∙ ap f (to_z-of_z w64 z k)
 
-pub returns-in-default : goal.returns-in-default
-returns-in-default g c =
+pub returns-in_default : goal.returns-in_default
+returns-in_default g c =
     let h = c.args.sheet.now in
     record {
-      asked = subst (λ (o : Option (List ℕ)). Asked o h.count c.args.mark c.args.saved.now h.sets (held c.args.decisions.now) c.put-back.new.saved c.put-back.new.sets (held c.args.decisions.now))
-          (meant (λ z. g.P.Pruner.prunes c.args.pruner.now (given h (g.T.Tariff.charges c.args.tariff.now)) z (sets_in h)) c.args.ceiling c.ranges.ceiling None c.in-default.ensures.meaning)
-          (refl, c.put-back.ensures.sets, c.put-back.ensures.saved);
+      asked = subst (λ (o : Option (List ℕ)). Asked o h.count c.args.mark c.args.saved.now h.sets (held c.args.decisions.now) c.put_back.new.saved c.put_back.new.sets (held c.args.decisions.now))
+          (meant (λ z. g.P.Pruner.prunes c.args.pruner.now (given h (g.T.Tariff.charges c.args.tariff.now)) z (sets_in h)) c.args.ceiling c.ranges.ceiling None c.in_default.ensures.meaning)
+          (refl, c.put_back.ensures.sets, c.put_back.ensures.saved);
       sheet = record { needs = refl; prices = refl; opened = refl; count = refl };
-      room = sound_back h.opened c.args.saved.now c.put-back.new.saved h.sets c.put-back.new.sets c.args.mark c.requires.room c.put-back.ensures.low c.put-back.ensures.long c.put-back.ensures.saved c.put-back.ensures.sets;
+      room = sound_back h.opened c.args.saved.now c.put_back.new.saved h.sets c.put_back.new.sets c.args.mark c.requires.room c.put_back.ensures.low c.put_back.ensures.long c.put_back.ensures.saved c.put_back.ensures.sets;
       long = refl;
       low = omega arith;
     }

@@ -9,11 +9,11 @@ returns c =
     let row = c.args.row in
     let allowed = c.args.allowed in
     let d = c.index-self-row.result in
-    let new = c.allow-in.new.row in
-    let said = c.allow-in.ensures.said in
-    let left = c.allow-in.ensures.left in
+    let new = c.allow_in.new.row in
+    let said = c.allow_in.ensures.said in
+    let left = c.allow_in.ensures.left in
     record {
       said = said ∙ ap answer (sym (refused_alike s row allowed d new (omega arith) (omega arith)));
-      left = left_alike s row allowed d new (omega arith) (omega arith) c.allow-in.result said left;
-      done = done_alike s row allowed d new (omega arith) (omega arith) c.allow-in.result left;
+      left = left_alike s row allowed d new (omega arith) (omega arith) c.allow_in.result said left;
+      done = done_alike s row allowed d new (omega arith) (omega arith) c.allow_in.result left;
     }

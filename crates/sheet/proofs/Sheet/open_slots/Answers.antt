@@ -5,21 +5,21 @@ use Rattle.sheet.specs.Contents.{contents, amount, is_open}
 use Rattle.sheet.proofs.Tables.{some_mapped}
 use Rattle.sheet.proofs.OneMore.{one_more, none_more}
 use Rattle.sheet.proofs.Sheet.open_slots.Goals as goal
-use Rattle.sheet.proofs.Sheet.open_slots.Goals.{then-is-some, else-is-some}
+use Rattle.sheet.proofs.Sheet.open_slots.Goals.{then-is_some, else-is_some}
 
 pub loop-slot-preserved : goal.loop-slot-preserved
 loop-slot-preserved c s =
     let i = c.loop-slot.slot in
     let f = is_open (contents c.args.self.now) in
-    let known : is_some c.price-of.result ≡ f i = sym (some_mapped amount c.price-of.result) ∙ ap is_some c.price-of.ensures in
+    let known : is_some c.price_of.result ≡ f i = sym (some_mapped amount c.price_of.result) ∙ ap is_some c.price_of.ensures in
     let below = c.loop-slot.invariant s in
-    elim c.if-is-some.branch [
-      | then-is-some w ↦
+    elim c.if-is_some.branch [
+      | then-is_some w ↦
           ap (λ o. has o.word s) w.open-is
           ∙ w.with-open.ensures s
           ∙ ap (λ b. b || (ltb i 64 && eqb s i)) below
           ∙ ap (λ b. (ltb s i && f s) || (b && eqb s i)) (lt-ltb i 64 c.loop-slot-test.true)
-          ∙ one_more f i s (sym (w.if-is-some.ensures ∙ known))
-      | else-is-some w ↦
-          ap (λ o. has o.word s) w.open-is ∙ below ∙ none_more f i s (sym (w.if-is-some.ensures ∙ known))
+          ∙ one_more f i s (sym (w.if-is_some.ensures ∙ known))
+      | else-is_some w ↦
+          ap (λ o. has o.word s) w.open-is ∙ below ∙ none_more f i s (sym (w.if-is_some.ensures ∙ known))
     ]

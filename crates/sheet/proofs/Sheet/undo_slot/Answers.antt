@@ -9,4 +9,4 @@ pub returns : goal.returns
 returns c low p =
     let s = contents c.args.self.now in
     cond-false _ _ _ (le-ltb 63 c.args.slot low)
-    ∙ ap (λ prices. record { rows = s.rows; prices = prices }) (place_back s.prices 63 c.args.slot p (option_map amount c.price-of.result) low c.price-of.ensures)
+    ∙ ap (λ prices. record { rows = s.rows; prices = prices }) (place_back s.prices 63 c.args.slot p (option_map amount c.price_of.result) low c.price_of.ensures)

@@ -13,11 +13,11 @@ returns g c =
     let task = sheet_given w (g.T.Tariff.charges c.args.tariff.now) in
     let slots = c.in-Some.slots in
     let is : o.best ≡ Some slots = c.in-Some.is in
-    let total : SFits w64 c.plan-total.result = search rules in
+    let total : SFits w64 c.plan_total.result = search rules in
     record {
       answer =
-          c.with-plan.ensures
-          ∙ ap (λ (z : ℤ). Ok (some_best o.stopped (best_of z o.steps o.betterings))) (to_z-of_z w64 c.plan-total.result total ∙ c.plan-total.ensures.sum)
+          c.with_plan.ensures
+          ∙ ap (λ (z : ℤ). Ok (some_best o.stopped (best_of z o.steps o.betterings))) (to_z-of_z w64 c.plan_total.result total ∙ c.plan_total.ensures.sum)
           ∙ ap (λ x. answered task (option_map (take w.count) x) o.stopped o.steps o.betterings) (sym is);
-      lines = c.write-lines.ensures ∙ sym (written_first task w.rows slots w.count c.args.plan.now) ∙ ap (λ x. listed task (take w.count w.rows) w.count (option_map (take w.count) x) c.args.plan.now) (sym is);
+      lines = c.write_lines.ensures ∙ sym (written_first task w.rows slots w.count c.args.plan.now) ∙ ap (λ x. listed task (take w.count w.rows) w.count (option_map (take w.count) x) c.args.plan.now) (sym is);
     }

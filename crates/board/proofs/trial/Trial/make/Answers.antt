@@ -12,9 +12,9 @@ returns-then-not-push c =
     let s = contents c.args.self.now.sheet in
     let m = contents c.apply.new.self in
     let us = noted c.args.self.now.journal in
-    let u = c.undo-of-undo.result in
-    let made = c.in-ok-apply.ensures in
-    let undoes = c.undo-of-undo.ensures in
+    let u = c.undo_of-undo.result in
+    let made = c.in_ok-apply.ensures in
+    let undoes = c.undo_of-undo.ensures in
     let full : 64 ≤ length us = ltb-false (length us) 64 (sym c.if-not-push.ensures.room) in
     record {
       said = sym (ap answer (full_refuses e s m us u made.said made.left undoes full));
@@ -27,9 +27,9 @@ returns c =
     let s = contents c.args.self.now.sheet in
     let m = contents c.apply.new.self in
     let us = noted c.args.self.now.journal in
-    let u = c.undo-of-undo.result in
-    let made = c.in-ok-apply.ensures in
-    let undoes = c.undo-of-undo.ensures in
+    let u = c.undo_of-undo.result in
+    let made = c.in_ok-apply.ensures in
+    let undoes = c.undo_of-undo.ensures in
     let room : length us < 64 = ltb-true (length us) 64 (sym c.if-not-push.ensures.room) in
     record {
       said = sym (ap answer (room_accepts e s m us u made.said made.left undoes room));

@@ -12,11 +12,11 @@ returns-in-Settled g c =
     let b = standing Outside (settled_view c.in-Settled.settled) in
     let is : stands c.args.self ≡ b = ap stands c.in-Settled.is in
     let call = asked g.T.Tariff.charges g.P.Pruner.prunes c.args.call in
-    let done = c.perform-settled.ensures in
+    let done = c.perform_settled.ensures in
     record {
       left = done.left ∙ ap (λ (x : Standing). performed x call) (sym is);
       past = λ st e. told_stands st call b (e ∙ is) ∙ sym done.left;
-      replied = λ st e. replied_after st b call (said c.perform-settled.result.1) done.said done.right (e ∙ is);
+      replied = λ st e. replied_after st b call (said c.perform_settled.result.1) done.said done.right (e ∙ is);
     }
 
 pub returns-in-Trial : goal.returns-in-Trial
@@ -24,9 +24,9 @@ returns-in-Trial g c =
     let b = standing Inside (trial_view c.in-Trial.trial) in
     let is : stands c.args.self ≡ b = ap stands c.in-Trial.is in
     let call = asked g.T.Tariff.charges g.P.Pruner.prunes c.args.call in
-    let done = c.perform-trial.ensures in
+    let done = c.perform_trial.ensures in
     record {
       left = done.left ∙ ap (λ (x : Standing). performed x call) (sym is);
       past = λ st e. told_stands st call b (e ∙ is) ∙ sym done.left;
-      replied = λ st e. replied_after st b call (said c.perform-trial.result.1) done.said done.right (e ∙ is);
+      replied = λ st e. replied_after st b call (said c.perform_trial.result.1) done.said done.right (e ∙ is);
     }

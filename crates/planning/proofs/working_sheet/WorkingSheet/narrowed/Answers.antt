@@ -5,12 +5,12 @@ use Rattle.planning.specs.Invariants.{Open}
 use Rattle.planning.proofs.WorkingTables.{open_set, and_left}
 use Rattle.planning.proofs.working_sheet.WorkingSheet.narrowed.Goals as goal
 
-pub invariant-of-result : goal.invariant-of-result
-invariant-of-result c =
+pub invariant_of-result : goal.invariant_of-result
+invariant_of-result c =
     let w = c.args.self in
     let i = c.args.case in
     let d = get_or w.sets i 0 in
-    let after = c.narrow-set-sets.ensures in (
+    let after = c.narrow_set-sets.ensures in (
       w.places,
       (
         ap length after ∙ length-set w.sets i (bit_and d c.args.word) ∙ w.sized,

@@ -7,8 +7,8 @@ use Rattle.planning.proofs.Slots.{is_keep}
 use Rattle.planning.proofs.WorkingTables.{open_set, needed_more, and_right}
 use Rattle.planning.proofs.working_sheet.WorkingSheet.with_case.Goals as goal
 
-pub invariant-of-result : goal.invariant-of-result
-invariant-of-result c =
+pub invariant_of-result : goal.invariant_of-result
+invariant_of-result c =
     let w = c.args.self in
     let low : 1 ≤ c.args.case.need = c.args.case.needs_some in
     let high : c.args.case.need ≤ 20000 = c.args.case.needs_at_most in

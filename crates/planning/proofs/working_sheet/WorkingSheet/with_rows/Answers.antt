@@ -18,7 +18,7 @@ loop-row-preserved c =
     let inside : i < length E = omega (arith, length-map R (option_map entry)) in
     let here : get_or E i None ≡ o = get_or-map (option_map entry) R i c.index-rows-row.result None (omega arith) in
     let inv = c.loop-row.invariant in
-    let made = c.with-row-work.ensures in (
+    let made = c.with_row-work.ensures in (
       omega (arith, made.count, inv.0),
       made.rows ∙ ap (λ xs. xs ++ map (λ (x : Standing). x.row) (placed i o)) inv.1 ∙ sym (standing_more (λ x. x.row) E i o inside here),
       made.needs ∙ ap (λ xs. xs ++ map (λ (x : Standing). x.entry.need) (placed i o)) inv.2 ∙ sym (standing_more (λ x. x.entry.need) E i o inside here),

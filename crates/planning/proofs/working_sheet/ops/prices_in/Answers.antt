@@ -8,10 +8,10 @@ pub loop-i-preserved : goal.loop-i-preserved
 loop-i-preserved c =
     let i = c.loop-i.i in
     let prices = c.loop-i.prices in
-    let v = to_z w64 (of_z w64 c.price-or-zero.result) in
-    let is : v ≡ c.price-or-zero.result = to_z-of_z {w = w64} (record { sfits = c.price-or-zero.type-inv }) in (
+    let v = to_z w64 (of_z w64 c.price_or_zero.result) in
+    let is : v ≡ c.price_or_zero.result = to_z-of_z {w = w64} (record { sfits = c.price_or_zero.type_inv }) in (
       length-set prices i v ∙ c.loop-i.invariant.0,
-      take_more_set prices i v (omega arith) ∙ ap (λ xs. xs ++ (v ∷ [])) c.loop-i.invariant.1 ∙ ap (λ x. map (λ o. unwrap_or (option_map amount o) (pos 0)) (take i c.args.slots.now) ++ (x ∷ [])) (is ∙ c.price-or-zero.ensures) ∙ sym (map_more (λ o. unwrap_or (option_map amount o) (pos 0)) c.args.slots.now i _ (omega arith)),
+      take_more_set prices i v (omega arith) ∙ ap (λ xs. xs ++ (v ∷ [])) c.loop-i.invariant.1 ∙ ap (λ x. map (λ o. unwrap_or (option_map amount o) (pos 0)) (take i c.args.slots.now) ++ (x ∷ [])) (is ∙ c.price_or_zero.ensures) ∙ sym (map_more (λ o. unwrap_or (option_map amount o) (pos 0)) c.args.slots.now i _ (omega arith)),
     )
 
 pub returns : goal.returns

@@ -1,19 +1,19 @@
 use Rattle.std.proofs.Common.{ℕ, List, map, get_or, ℤ, pos, neg_ℤ, ◌≤ℤ◌, unwrap_or, sym, refl, ap, ◌∙◌, subst, arith}
-use mathlib.Core.List.{map_map}
+use mathlib.Core.List.{map-map}
 use Rattle.std.specs.Option.{option_map}
 use Rattle.slot_set.specs.Sets.{has}
 use Rattle.sheet.specs.Contents.{amount}
 use Rattle.planning.proofs.WorkingTables.{prices_in_range, open_none}
 use Rattle.planning.proofs.working_sheet.ops.without_cases.Goals as goal
 
-pub invariant-of-result : goal.invariant-of-result
-invariant-of-result c =
-    let priced = λ (s : ℕ). subst (λ (ps : List ℤ). (neg_ℤ (pos 50000) ≤ℤ get_or ps s (pos 0)) × (get_or ps s (pos 0) ≤ℤ pos 50000)) (sym c.prices-in-prices.ensures) (prices_in_range c.slots.result.now s) in
+pub invariant_of-result : goal.invariant_of-result
+invariant_of-result c =
+    let priced = λ (s : ℕ). subst (λ (ps : List ℤ). (neg_ℤ (pos 50000) ≤ℤ get_or ps s (pos 0)) × (get_or ps s (pos 0) ≤ℤ pos 50000)) (sym c.prices_in-prices.ensures) (prices_in_range c.slots.result.now s) in
     (refl, (refl, (omega arith, ((λ i l. absurd (omega arith)), ((λ s t. priced s), (open_none c.word-opened.result 16, tt))))))
 
 pub returns : goal.returns
 returns c = record {
   count = refl;
-  prices = c.prices-in-prices.ensures ∙ sym (map_map (λ o. unwrap_or o (pos 0)) (option_map amount) c.slots.result.now) ∙ ap (map (λ o. unwrap_or o (pos 0))) c.slots.ensures;
-  opened = λ slot. ap (λ x. has x slot) c.word-opened.ensures ∙ c.open-slots.ensures slot;
+  prices = c.prices_in-prices.ensures ∙ sym (map-map (λ o. unwrap_or o (pos 0)) (option_map amount) c.slots.result.now) ∙ ap (map (λ o. unwrap_or o (pos 0))) c.slots.ensures;
+  opened = λ slot. ap (λ x. has x slot) c.word-opened.ensures ∙ c.open_slots.ensures slot;
 }
