@@ -10,22 +10,12 @@ invariant_of-result c =
     let w = c.args.self in
     let i = c.args.case in
     let d = get_or w.sets i 0 in
-    let after = c.narrow_set-sets.ensures in (
-      w.places,
-      (
-        ap length after ∙ length-set w.sets i (bit_and d c.args.word) ∙ w.sized,
-        (
-          w.few,
-          (
-            w.needed,
-            (
-              w.priced,
-              (
-                subst (Open w.opened) (sym after) (open_set w.opened i (bit_and d c.args.word) w.sets w.usable (λ s t. w.usable i s (and_left d c.args.word s t))),
-                tt,
-              ),
-            ),
-          ),
-        ),
-      ),
-    )
+    let after = c.narrow_set-sets.ensures in
+    record {
+      places = w.places;
+      sized = ap length after ∙ length-set w.sets i (bit_and d c.args.word) ∙ w.sized;
+      few = w.few;
+      needed = w.needed;
+      priced = w.priced;
+      usable = subst (Open w.opened) (sym after) (open_set w.opened i (bit_and d c.args.word) w.sets w.usable (λ s t. w.usable i s (and_left d c.args.word s t)));
+    }

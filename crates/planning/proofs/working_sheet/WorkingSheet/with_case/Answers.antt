@@ -12,25 +12,15 @@ invariant_of-result c =
     let w = c.args.self in
     let low : 1 ≤ c.args.case.need = c.args.case.needs_some in
     let high : c.args.case.need ≤ 20000 = c.args.case.needs_at_most in
-    let some : (1 ≤ c.need.result) × (c.need.result ≤ 20000) = (omega (arith, c.need.ensures), omega (arith, c.need.ensures)) in (
-      length-set w.needs w.count c.need.result ∙ w.places,
-      (
-        length-set w.sets w.count (bit_and c.word.result w.opened) ∙ w.sized,
-        (
-          omega arith,
-          (
-            needed_more w.count c.need.result w.needs (omega arith) w.needed some,
-            (
-              w.priced,
-              (
-                open_set w.opened w.count (bit_and c.word.result w.opened) w.sets w.usable (and_right c.word.result w.opened),
-                tt,
-              ),
-            ),
-          ),
-        ),
-      ),
-    )
+    let some : (1 ≤ c.need.result) × (c.need.result ≤ 20000) = (omega (arith, c.need.ensures), omega (arith, c.need.ensures)) in
+    record {
+      places = length-set w.needs w.count c.need.result ∙ w.places;
+      sized = length-set w.sets w.count (bit_and c.word.result w.opened) ∙ w.sized;
+      few = omega arith;
+      needed = needed_more w.count c.need.result w.needs (omega arith) w.needed some;
+      priced = w.priced;
+      usable = open_set w.opened w.count (bit_and c.word.result w.opened) w.sets w.usable (and_right c.word.result w.opened);
+    }
 
 pub returns : goal.returns
 returns c =

@@ -9,7 +9,14 @@ use Rattle.planning.proofs.working_sheet.ops.without_cases.Goals as goal
 pub invariant_of-result : goal.invariant_of-result
 invariant_of-result c =
     let priced = λ (s : ℕ). subst (λ (ps : List ℤ). (neg_ℤ (pos 50000) ≤ℤ get_or ps s (pos 0)) × (get_or ps s (pos 0) ≤ℤ pos 50000)) (sym c.prices_in-prices.ensures) (prices_in_range c.slots.result.now s) in
-    (refl, (refl, (omega arith, ((λ i l. absurd (omega arith)), ((λ s t. priced s), (open_none c.word-opened.result 16, tt))))))
+    record {
+      places = refl;
+      sized = refl;
+      few = omega arith;
+      needed = λ i l. absurd (omega arith);
+      priced = λ s t. priced s;
+      usable = open_none c.word-opened.result 16;
+    }
 
 pub returns : goal.returns
 returns c = record {
