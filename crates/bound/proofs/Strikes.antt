@@ -3,7 +3,7 @@ use Rattle.std.proofs.Common.{◌≡◌, ℕ, zero, suc, ◌+◌, ◌<◌, ◌�
 use lib.Signed.{le_z, lt_z}
 use Rattle.std.proofs.lemmas.List.{drop-drop, get_or-drop}
 use Rattle.std.proofs.lemmas.Bool.{cond_both, cond-false, cond-true, le-ltb, lt-ltb, or_from, or_left, or_right}
-use Rattle.std.specs.List.{AllByRecursion as All}
+use Rattle.std.specs.List.{AllByRecursion}
 use Rattle.slot_set.specs.Sets.{has, keep, members, single, some_empty, word_of}
 use Rattle.tariff.specs.Charges.{Charge}
 use Rattle.planning.specs.Lists.{In}
@@ -21,7 +21,7 @@ use Rattle.bound.proofs.Counting.{length_rows, row_get, some_row}
 use Rattle.bound.proofs.Filling.{free_case, member_is}
 use Rattle.bound.specs.Sorting.{length_sorted}
 
-kept_same_in : (f h : ℕ → Bool) (xs : List ℕ) → All (λ x. f x ≡ h x) xs → filter f xs ≡ filter h xs
+kept_same_in : (f h : ℕ → Bool) (xs : List ℕ) → AllByRecursion (λ x. f x ≡ h x) xs → filter f xs ≡ filter h xs
 kept_same_in f h [] e = refl
 kept_same_in f h (x ∷ xs) e = ap₂ (λ b ys. cond b (x ∷ ys) ys) e.0 (kept_same_in f h xs e.1)
 

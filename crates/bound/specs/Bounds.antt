@@ -7,7 +7,7 @@ use Rattle.std.proofs.lemmas.List.{length-map}
 use Rattle.std.proofs.lemmas.Int.{ints}
 use Rattle.std.proofs.lemmas.Bool.{false≢true, ne_eqb, not_from_false, or_cases, or_left, or_right}
 use Rattle.std.proofs.lemmas.Bool.Decides.{nat_tests}
-use Rattle.std.specs.List.{AllByRecursion as All}
+use Rattle.std.specs.List.{AllByRecursion}
 use Rattle.planning.specs.Lists.{In, Ordered}
 use Rattle.slot_set.specs.Sets.{every_slot, has, single}
 use Rattle.tariff.specs.Charges.{LawfulTariff, Need, Price}
@@ -46,7 +46,7 @@ slot_no : (g : Given) (s t : ℕ) → slot_before g s t ≡ false → price g t 
 slot_no g s t e = grind (arith, ints)
 
 -- the slots of a union
-some_priced : (g : Given) (f : ℕ → ℕ) (rs : List Row) → All (Fine g f) rs → (s : ℕ) → s < 64 → in_some rs s ≡ true → Price (price g s)
+some_priced : (g : Given) (f : ℕ → ℕ) (rs : List Row) → AllByRecursion (Fine g f) rs → (s : ℕ) → s < 64 → in_some rs s ≡ true → Price (price g s)
 some_priced g f [] h s l e = absurd (false≢true e)
 some_priced g f (r ∷ rs) h s l e = ⊎_elim (λ k. h.0.priced s l k) (λ k. some_priced g f rs h.1 s l k) (or_cases (has r.slots s) (in_some rs s) e)
 
@@ -56,8 +56,8 @@ some_has (q ∷ rs) s r (inl e) t = or_left (has q.slots s) (in_some rs s) (subs
 some_has (q ∷ rs) s r (inr m) t = or_right (has q.slots s) (in_some rs s) (some_has rs s r m t)
 
 -- rows in falling order and slots in rising order, among which each row finds its slot of the plan
-under : (g : Given) (f : ℕ → ℕ) (greatest : ℕ) → LawfulTariff g.charge greatest → (us : List Row) (vs : List ℕ) → All (Fine g f) us → Ordered BeforeRow us → Ordered (ApartIn f) us →
-    All (GoodSlot g) vs → Ordered (BeforeSlot g) vs → All (λ r. In (f r.row) vs) us → (length us ≤ length vs) × (matched g us vs ≤ℤ sum_over (charged g f) us)
+under : (g : Given) (f : ℕ → ℕ) (greatest : ℕ) → LawfulTariff g.charge greatest → (us : List Row) (vs : List ℕ) → AllByRecursion (Fine g f) us → Ordered BeforeRow us → Ordered (ApartIn f) us →
+    AllByRecursion (GoodSlot g) vs → Ordered (BeforeSlot g) vs → AllByRecursion (λ r. In (f r.row) vs) us → (length us ≤ length vs) × (matched g us vs ≤ℤ sum_over (charged g f) us)
 under g f greatest law us vs fine fall apart good rise m =
     let slot : Row → ℕ = λ r. f r.row in
     let k = matched_least (at_slot g) Need (GoodSlot g) (BeforeSlot g)
@@ -77,13 +77,13 @@ module _ (g : Given) (ds p : List ℕ) (ok : Proper g ds) (h : Drawn ds p) where
   abbrev rs : List Row
   rs = rows_from 0 g.needs ds
 
-  fine : All (Fine g slot_in) rs
+  fine : AllByRecursion (Fine g slot_in) rs
   fine = rows_fine g slot_in 0 g.needs ds p (follows p) ok.needs ok.priced h
 
-  free_fine : All (Fine g slot_in) (free_of rs)
+  free_fine : AllByRecursion (Fine g slot_in) (free_of rs)
   free_fine = All-weaker (λ r. Fine g slot_in r × (free r ≡ true)) (Fine g slot_in) (λ r k. k.0) (free_of rs) (all_kept free (Fine g slot_in) rs fine)
 
-  U_fine : All (Fine g slot_in) (U rs)
+  U_fine : AllByRecursion (Fine g slot_in) (U rs)
   U_fine = all_sorted row_before (Fine g slot_in) (free_of rs) free_fine
 
   U_falls : Ordered BeforeRow (U rs)
@@ -93,7 +93,7 @@ module _ (g : Given) (ds p : List ℕ) (ok : Proper g ds) (h : Drawn ds p) where
   U_apart = apart_sorted row_before (ApartIn slot_in) (λ x y n e. n (sym e)) (free_of rs)
       (ordered_kept free (ApartIn slot_in) rs (rows_apart g slot_in 0 g.needs ds p (follows p) h))
 
-  V_good : All (GoodSlot g) (V g rs)
+  V_good : AllByRecursion (GoodSlot g) (V g rs)
   V_good = all_sorted (slot_before g) (GoodSlot g) (union rs)
       (All-weaker (λ s. (s < 64) × (in_some (free_of rs) s ≡ true)) (GoodSlot g) (λ s k. some_priced g slot_in (free_of rs) free_fine s k.0 k.1)
       (union rs) (all_kept (in_some (free_of rs)) (λ s. s < 64) every_slot below_every))
@@ -101,7 +101,7 @@ module _ (g : Given) (ds p : List ℕ) (ok : Proper g ds) (h : Drawn ds p) where
   V_rises : Ordered (BeforeSlot g) (V g rs)
   V_rises = ordered_sorted (slot_before g) (BeforeSlot g) (λ x y z a b. omega (arith, ints)) (slot_yes g) (slot_no g) (union rs)
 
-  U_in_V : All (λ r. In (slot_in r.row) (V g rs)) (U rs)
+  U_in_V : AllByRecursion (λ r. In (slot_in r.row) (V g rs)) (U rs)
   U_in_V = all_sorted row_before (λ r. In (slot_in r.row) (V g rs)) (free_of rs)
       (all_from_in (λ r. In (slot_in r.row) (V g rs)) (free_of rs) (λ r m.
       let k = all_in (Fine g slot_in) (free_of rs) free_fine r m in

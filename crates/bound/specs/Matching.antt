@@ -4,7 +4,7 @@ use Rattle.std.proofs.Common.{inl, inr, ap, subst, sym, arith}
 use Rattle.std.specs.Int.Signed.{≤ℤ_refl}
 use Rattle.std.proofs.lemmas.Int.{ints}
 use Rattle.std.proofs.lemmas.Bool.{cond_both, eqb-false, eqb-true}
-use Rattle.std.specs.List.{AllByRecursion as All}
+use Rattle.std.specs.List.{AllByRecursion}
 use Rattle.planning.specs.Lists.{In, Ordered}
 use Rattle.planning.specs.Plans.{Absent, sum_of}
 use Rattle.planning.proofs.Lists.{all_in}
@@ -35,13 +35,13 @@ other : (x v : ℕ) (vs : List ℕ) → (x ≢ v) → In x (v ∷ vs) → In x v
 other x v vs n (inl e) = absurd (n e)
 other x v vs n (inr m) = m
 
-others : (v : ℕ) (vs xs : List ℕ) → Absent v xs → All (λ x. In x (v ∷ vs)) xs → All (λ x. In x vs) xs
+others : (v : ℕ) (vs xs : List ℕ) → Absent v xs → AllByRecursion (λ x. In x (v ∷ vs)) xs → AllByRecursion (λ x. In x vs) xs
 others v vs [] a h = tt
 others v vs (x ∷ xs) a h = (other x v vs (λ e. a.0 (sym e)) h.0, others v vs xs a.1 h.1)
 
-in_replaced : (v q : ℕ) (vs xs : List ℕ) → In q (v ∷ vs) → Absent q xs → Unlike xs → All (λ x. In x (v ∷ vs)) xs → All (λ x. In x vs) (replaced v q xs)
+in_replaced : (v q : ℕ) (vs xs : List ℕ) → In q (v ∷ vs) → Absent q xs → Unlike xs → AllByRecursion (λ x. In x (v ∷ vs)) xs → AllByRecursion (λ x. In x vs) (replaced v q xs)
 in_replaced v q vs [] m a d h = tt
-in_replaced v q vs (x ∷ xs) m a d h = cond_both (x == v) (q ∷ xs) (x ∷ replaced v q xs) (All (λ x. In x vs))
+in_replaced v q vs (x ∷ xs) m a d h = cond_both (x == v) (q ∷ xs) (x ∷ replaced v q xs) (AllByRecursion (λ x. In x vs))
     (λ e. (other q v vs (λ k. a.0 (omega (arith, eqb-true x v e))) m, others v vs xs (subst (λ (y : ℕ). Absent y xs) (eqb-true x v e) d.0) h.1))
     (λ e. (other x v vs (eqb-false x v e) h.0, in_replaced v q vs xs m a.1 d.1 h.1))
 
@@ -50,7 +50,7 @@ module _ (w : ℕ → ℕ → ℤ) (N S : ℕ → Type 0) (R : ℕ → ℕ → T
     (order : (a s t : ℕ) → N a → S s → S t → R s t → w a s ≤ℤ w a t)
     (exchange : (a b s t : ℕ) → N a → N b → b ≤ a → S s → S t → R s t → (w a s +ℤ w b t) ≤ℤ (w a t +ℤ w b s)) where
   -- u moves to v, and whoever was there takes u's old slot
-  moved : (u v q : ℕ) → N u → S v → S q → R v q → (us qs : List ℕ) → All N us → All (λ a. a ≤ u) us →
+  moved : (u v q : ℕ) → N u → S v → S q → R v q → (us qs : List ℕ) → AllByRecursion N us → AllByRecursion (λ a. a ≤ u) us →
       (w u v +ℤ sum_of w us (replaced v q qs)) ≤ℤ (w u q +ℤ sum_of w us qs)
   moved u v q nu sv sq r [] qs ns le = omega (arith, ints, order u v q nu sv sq r)
   moved u v q nu sv sq r (a ∷ us) [] ns le = omega (arith, ints, order u v q nu sv sq r)
@@ -60,8 +60,8 @@ module _ (w : ℕ → ℕ → ℤ) (N S : ℕ → Type 0) (R : ℕ → ℕ → T
       (omega (arith, ints, exchange u a v q nu ns.0 le.0 sv sq r)))
       (λ e. omega (arith, ints, moved u v q nu sv sq r us qs ns.1 le.1))
 
-  pub matched_least : (us qs vs : List ℕ) → All N us → Ordered (λ a b. b ≤ a) us → All S vs → Ordered R vs →
-      length qs ≡ length us → Unlike qs → All (λ q. In q vs) qs → (length us ≤ length vs) × (sum_of w us vs ≤ℤ sum_of w us qs)
+  pub matched_least : (us qs vs : List ℕ) → AllByRecursion N us → Ordered (λ a b. b ≤ a) us → AllByRecursion S vs → Ordered R vs →
+      length qs ≡ length us → Unlike qs → AllByRecursion (λ q. In q vs) qs → (length us ≤ length vs) × (sum_of w us vs ≤ℤ sum_of w us qs)
   matched_least [] qs vs nu ou sv ov e d m = (omega arith, ≤ℤ_refl (pos 0))
   matched_least (u ∷ us) [] vs nu ou sv ov e d m = absurd (omega arith)
   matched_least (u ∷ us) (q ∷ qs) [] nu ou sv ov e d m = absurd m.0

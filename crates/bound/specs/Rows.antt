@@ -3,7 +3,7 @@ use Rattle.std.specs.Prelude.{◌≡◌, ℕ, suc, ◌+◌, ◌<◌, Bool, true,
 use Rattle.std.proofs.Common.{◌∙◌, ap, subst, sym, add-suc, add-zero, suc-add, zero-add, arith}
 use Rattle.std.proofs.lemmas.Int.{ints}
 use Rattle.std.proofs.lemmas.Bool.{cond_both}
-use Rattle.std.specs.List.{AllByRecursion as All}
+use Rattle.std.specs.List.{AllByRecursion}
 use Rattle.planning.specs.Lists.{Ordered}
 use Rattle.slot_set.specs.Sets.{has, keep, single}
 use Rattle.tariff.specs.Charges.{Need}
@@ -29,7 +29,7 @@ pub follows : (p : List ℕ) → Follows (λ i. slice_index p i) 0 p
 follows p = follows_from (λ i. slice_index p i) 0 p (λ k. ap (λ i. slice_index p i) (zero-add k))
 
 -- rows have rising numbers
-above : (j i : ℕ) (ns ds : List ℕ) → j < i → All (λ r. j ≢ r.row) (rows_from i ns ds)
+above : (j i : ℕ) (ns ds : List ℕ) → j < i → AllByRecursion (λ r. j ≢ r.row) (rows_from i ns ds)
 above j i [] ds h = tt
 above j i (a ∷ ns) [] h = tt
 above j i (a ∷ ns) (d ∷ ds) h = ((λ e. omega arith), above j (suc i) ns ds (omega arith))
@@ -53,7 +53,7 @@ pub record Fine (g : Given) (f : ℕ → ℕ) (r : Row) : Type 0 where
   pub drawn : has r.slots (f r.row) ≡ true
 
 module _ (g : Given) (f : ℕ → ℕ) where
-  pub rows_fine : (i : ℕ) (ns ds p : List ℕ) → Follows f i p → All Need ns → All (Priced g) ds → Drawn ds p → All (Fine g f) (rows_from i ns ds)
+  pub rows_fine : (i : ℕ) (ns ds p : List ℕ) → Follows f i p → AllByRecursion Need ns → AllByRecursion (Priced g) ds → Drawn ds p → AllByRecursion (Fine g f) (rows_from i ns ds)
   rows_fine i [] ds p w n k h = tt
   rows_fine i (a ∷ ns) [] p w n k h = tt
   rows_fine i (a ∷ ns) (d ∷ ds) [] w n k h = absurd h
@@ -62,7 +62,7 @@ module _ (g : Given) (f : ℕ → ℕ) where
     rows_fine (suc i) ns ds p w.1 n.1 k.1 h.3,
   )
 
-  rows_absent : (t i : ℕ) (ns ds p : List ℕ) → Follows f i p → Drawn ds p → Absent t p → All (λ r. t ≢ f r.row) (rows_from i ns ds)
+  rows_absent : (t i : ℕ) (ns ds p : List ℕ) → Follows f i p → Drawn ds p → Absent t p → AllByRecursion (λ r. t ≢ f r.row) (rows_from i ns ds)
   rows_absent t i [] ds p w h n = tt
   rows_absent t i (a ∷ ns) [] p w h n = tt
   rows_absent t i (a ∷ ns) (d ∷ ds) [] w h n = absurd h
@@ -91,13 +91,13 @@ module _ (g : Given) (f : ℕ → ℕ) where
   part_step true r rs m a s h e = omega (arith, ints, h refl)
   part_step false r rs m a s h e = omega (arith, ints)
 
-  pub total_parts : (rs : List Row) → All (Fine g f) rs → sum_over charged rs ≡ (fixed_sum g rs +ℤ sum_over charged (free_of rs))
+  pub total_parts : (rs : List Row) → AllByRecursion (Fine g f) rs → sum_over charged rs ≡ (fixed_sum g rs +ℤ sum_over charged (free_of rs))
   total_parts [] h = refl
   total_parts (r ∷ rs) h = part_step (single r.slots) r (free_of rs) (least_in g r.need r.slots) (fixed_sum g rs) (sum_over charged rs)
       (λ e. single_least (at_slot g r.need) r.slots (f r.row) e h.0.below h.0.drawn) (total_parts rs h.1)
 
   pub strike_drawn : (keeps : Row → ℕ → Bool) (i : ℕ) (ns ds p : List ℕ) → Follows f i p → length ds ≡ length ns → Drawn ds p →
-      All (λ r. single r.slots ≡ false → keeps r (f r.row) ≡ true) (rows_from i ns ds) → Drawn (bound_strike keeps (rows_from i ns ds)) p
+      AllByRecursion (λ r. single r.slots ≡ false → keeps r (f r.row) ≡ true) (rows_from i ns ds) → Drawn (bound_strike keeps (rows_from i ns ds)) p
   strike_drawn keeps i [] [] p w e h k = h
   strike_drawn keeps i [] (d ∷ ds) p w e h k = absurd (omega arith)
   strike_drawn keeps i (a ∷ ns) [] p w e h k = absurd (omega arith)

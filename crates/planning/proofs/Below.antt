@@ -1,7 +1,7 @@
 -- The plans that begin with a part-plan. Assumes nothing.
 use Rattle.std.proofs.Common.{◌≡◌, ℕ, ◌+◌, ◌-◌, ◌<◌, Bool, true, false, not, ◌&&◌, eqb, List, [], ◌∷◌, ◌++◌, set, filter, sym, refl, ◌∙◌, subst, inl, inr, append_assoc, append-nil}
 use Rattle.std.proofs.lemmas.Bool.{and_from, and_parts, eqb-false, ne_eqb, not_from_false, not-true, or_from, or_parts}
-use Rattle.std.specs.List.{AllByRecursion as All}
+use Rattle.std.specs.List.{AllByRecursion}
 use Rattle.planning.specs.Lists.{In, Ordered}
 use Rattle.slot_set.specs.Sets.{every_slot, from, has}
 use Rattle.planning.specs.Plans.{Absent, Before, Drawn, choices, used}
@@ -49,7 +49,7 @@ abbrev pub Below : List ℕ → List ℕ → List ℕ → Type 0
 Below p ds q = (r : List ℕ) × (q ≡ p ++ r) × GoesOn p ds r
 
 abbrev Unused : List ℕ → List ℕ → Type 0
-Unused p r = All (λ s. used s p ≡ false) r
+Unused p r = AllByRecursion (λ s. used s p ≡ false) r
 
 used_snoc : (s x : ℕ) (p : List ℕ) → used s (p ++ (x ∷ [])) ≡ false → (used s p ≡ false) × (s ≡ x → ⊥)
 used_snoc s x [] e = (refl, eqb-false s x (or_parts (eqb s x) false e).0)

@@ -1,7 +1,7 @@
 -- The list of all plans. Assumes nothing.
 use Rattle.std.proofs.Common.{◌≡◌, ℕ, ◌<◌, List, [], ◌∷◌, ◌++◌, refl, subst, inl, inr}
 use Rattle.std.proofs.ByRecursion.{All-append, All-weaker}
-use Rattle.std.specs.List.{AllByRecursion as All}
+use Rattle.std.specs.List.{AllByRecursion}
 use Rattle.planning.specs.Lists.{In, Ordered}
 use Rattle.planning.specs.Plans.{Before, PlansListed, choices, gather, plans}
 use Rattle.planning.proofs.Lists.{all_from_in, all_in, ordered_append, ordered_weaker}
@@ -20,7 +20,7 @@ in_right q (x ∷ xs) ys i = inr (in_right q xs ys i)
 -- ---- what each slot of a list leads to
 
 module _ (L : ℕ → List (List ℕ)) where
-  pub gather_all : (P : List ℕ → Type 0) (cs : List ℕ) → ((s : ℕ) → In s cs → All P (L s)) → All P (gather L cs)
+  pub gather_all : (P : List ℕ → Type 0) (cs : List ℕ) → ((s : ℕ) → In s cs → AllByRecursion P (L s)) → AllByRecursion P (gather L cs)
   gather_all P [] h = tt
   gather_all P (c ∷ cs) h = All-append P (L c) (gather L cs) (h c (inl refl)) (gather_all P cs (λ s i. h s (inr i)))
 
@@ -37,18 +37,18 @@ module _ (L : ℕ → List (List ℕ)) where
 
   -- in the order R, if what a smaller slot leads to comes first
   pub gather_ordered : (R : List ℕ → List ℕ → Type 0) (Q : ℕ → List ℕ → Type 0) →
-      ((s s' : ℕ) (q q' : List ℕ) → s < s' → Q s q → Q s' q' → R q q') → ((s : ℕ) → All (Q s) (L s)) → ((s : ℕ) → Ordered R (L s)) →
+      ((s s' : ℕ) (q q' : List ℕ) → s < s' → Q s q → Q s' q' → R q q') → ((s : ℕ) → AllByRecursion (Q s) (L s)) → ((s : ℕ) → Ordered R (L s)) →
       (cs : List ℕ) → Ordered (λ s t. s < t) cs → Ordered R (gather L cs)
   gather_ordered R Q order leads rises [] h = tt
   gather_ordered R Q order leads rises (c ∷ cs) h =
-      ordered_append R (L c) (gather L cs) (rises c) (gather_ordered R Q order leads rises cs h.1) (All-weaker (Q c) (λ x. All (R x) (gather L cs)) past (L c) (leads c))
+      ordered_append R (L c) (gather L cs) (rises c) (gather_ordered R Q order leads rises cs h.1) (All-weaker (Q c) (λ x. AllByRecursion (R x) (gather L cs)) past (L c) (leads c))
     where
-      past : (x : List ℕ) → Q c x → All (R x) (gather L cs)
+      past : (x : List ℕ) → Q c x → AllByRecursion (R x) (gather L cs)
       past x m = gather_all (R x) cs (λ s i. All-weaker (Q s) (R x) (λ y k. order c s x y (all_in (λ t. c < t) cs h.0 s i) m k) (L s) (leads s))
 
 -- ---- the plans
 
-pub plans_below : (D p : List ℕ) → All (Below p D) (plans D p)
+pub plans_below : (D p : List ℕ) → AllByRecursion (Below p D) (plans D p)
 plans_below [] p = (all_below p, tt)
 plans_below (d ∷ D) p =
     gather_all (λ s. plans D (p ++ (s ∷ []))) (Below p (d ∷ D)) (choices p d)

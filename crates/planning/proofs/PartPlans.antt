@@ -1,7 +1,7 @@
 -- The list of all part-plans: those of k slots are the plans drawn from the first k sets. Assumes nothing.
 use Rattle.std.proofs.Common.{◌≡◌, ℕ, zero, suc, List, [], ◌∷◌, ◌++◌, length, take, sym, refl, ap, ◌∙◌, inl, inr, append_assoc, append-nil, arith, length-append}
 use Rattle.std.proofs.ByRecursion.{All-weaker}
-use Rattle.std.specs.List.{AllByRecursion as All}
+use Rattle.std.specs.List.{AllByRecursion}
 use Rattle.planning.specs.Lists.{In, Ordered}
 use Rattle.planning.specs.Plans.{Begun, Drawn, PartPlansAreListed, add_over, choices, gather, part_plans, parts, plans}
 use Rattle.planning.proofs.PlanOrder.{other}
@@ -59,7 +59,7 @@ starts_on p s q (r, e) = (s ∷ r, e ∙ append_assoc p (s ∷ []) r)
 longer : (p : List ℕ) (s : ℕ) (q : List ℕ) → Starts (p ++ (s ∷ [])) q → Other p q
 longer p s q (r, e) h = let l = simp length-append at (ap length (h ∙ e)) in omega arith
 
-starts : (ds p : List ℕ) → All (Starts p) (part_plans ds p)
+starts : (ds p : List ℕ) → AllByRecursion (Starts p) (part_plans ds p)
 starts [] p = (([], sym (append-nil p)), tt)
 starts (d ∷ ds) p = (
   ([], sym (append-nil p)),

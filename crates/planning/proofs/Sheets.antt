@@ -1,6 +1,6 @@
 -- A working sheet is one that pruners are lawful on, and stays one with their new sets. Assumes nothing.
 use Rattle.std.proofs.Common.{◌≡◌, ℕ, zero, suc, ◌+◌, ◌-◌, ◌<◌, ◌≤◌, true, List, [], ◌∷◌, length, get_or, take, drop, ℤ, Option, sym, ap, ◌∙◌, ⊎_elim, arith}
-use Rattle.std.specs.List.{AllByRecursion as All}
+use Rattle.std.specs.List.{AllByRecursion}
 use Rattle.std.proofs.lemmas.List.{get_or-take, get_or-drop, length-take-le}
 use Rattle.std.proofs.lemmas.Bool.{cases_lt, both_ways}
 use Rattle.slot_set.specs.Sets.{has}
@@ -13,7 +13,7 @@ use Rattle.planning.specs.Working.{KeptPoints, first_sets, given, sets_in}
 use Rattle.planning.specs.Parts.{parts_refl}
 
 -- the first n, place by place
-all_take : (P : ℕ → Type 0) (n : ℕ) (xs : List ℕ) → n ≤ length xs → ((i : ℕ) → i < n → P (get_or xs i 0)) → All P (take n xs)
+all_take : (P : ℕ → Type 0) (n : ℕ) (xs : List ℕ) → n ≤ length xs → ((i : ℕ) → i < n → P (get_or xs i 0)) → AllByRecursion P (take n xs)
 all_take P zero [] h f = tt
 all_take P zero (x ∷ xs) h f = tt
 all_take P (suc n) [] h f = absurd (omega arith)

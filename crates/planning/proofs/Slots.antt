@@ -4,7 +4,7 @@ use native.Mathlib.Nat.{pow-succ', zero-div}
 use lib.Dec.{leb-suc-suc, leb-suc-zero}
 use Rattle.std.proofs.lemmas.Nat.{shr-shr}
 use Rattle.std.proofs.lemmas.Bool.{and_from, and_parts, both_ways, cases_eq, cond_both, eq-eqb, eqb-true, lt-ltb, ne_eqb, or_from}
-use Rattle.std.specs.List.{AllByRecursion as All}
+use Rattle.std.specs.List.{AllByRecursion}
 use Rattle.slot_set.proofs.Words.{same_word}
 use Rattle.planning.specs.Lists.{In, Ordered}
 use Rattle.slot_set.specs.Sets.{every_slot, from, has, keep, members, single, some_empty, word_of}
@@ -93,15 +93,15 @@ in_every : (s : ℕ) → s < 64 → In s every_slot
 unfolding every_slot
 in_every s h = in_from 0 64 s (omega arith) (omega arith)
 
-below_from : (k n : ℕ) → All (λ s. s < k + n) (from k n)
+below_from : (k n : ℕ) → AllByRecursion (λ s. s < k + n) (from k n)
 below_from k zero = tt
-below_from k (suc n) = (omega arith, subst (λ m. All (λ s. s < m) (from (suc k) n)) (omega arith) (below_from (suc k) n))
+below_from k (suc n) = (omega arith, subst (λ m. AllByRecursion (λ s. s < m) (from (suc k) n)) (omega arith) (below_from (suc k) n))
 
-pub below_every : All (λ s. s < 64) every_slot
+pub below_every : AllByRecursion (λ s. s < 64) every_slot
 unfolding every_slot
 below_every = below_from 0 64
 
-above_from : (j k n : ℕ) → j < k → All (λ s. j < s) (from k n)
+above_from : (j k n : ℕ) → j < k → AllByRecursion (λ s. j < s) (from k n)
 above_from j k zero h = tt
 above_from j k (suc n) h = (h, above_from j (suc k) n (omega arith))
 

@@ -1,7 +1,7 @@
 -- Parts of sets, and the points of a pruner at them. Assumes nothing.
 use Rattle.std.specs.Prelude.{◌≡◌, ℕ, suc, List, [], ◌∷◌, length, ℤ, refl}
 use Rattle.std.proofs.Common.{◌∙◌, ap}
-use Rattle.std.specs.List.{AllByRecursion as All}
+use Rattle.std.specs.List.{AllByRecursion}
 use Rattle.planning.specs.Plans.{Given}
 use Rattle.planning.specs.Pruners.{Lawful, Parts, Points, Priced, Proper, Prune}
 
@@ -22,7 +22,7 @@ parts_length [] (d ∷ ds) h = absurd h
 parts_length (e ∷ es) [] h = absurd h
 parts_length (e ∷ es) (d ∷ ds) h = ap suc (parts_length es ds h.1)
 
-parts_priced : (g : Given) (es ds : List ℕ) → Parts es ds → All (Priced g) ds → All (Priced g) es
+parts_priced : (g : Given) (es ds : List ℕ) → Parts es ds → AllByRecursion (Priced g) ds → AllByRecursion (Priced g) es
 parts_priced g [] [] h k = tt
 parts_priced g [] (d ∷ ds) h k = tt
 parts_priced g (e ∷ es) [] h k = absurd h

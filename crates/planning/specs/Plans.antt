@@ -1,6 +1,6 @@
 -- Plans: one slot for each standing case, their totals, their order and their list. Assumes nothing.
 use Rattle.std.specs.Prelude.{◌≡◌, ℕ, suc, ◌+◌, ◌<◌, Bool, true, false, not, ◌||◌, ◌⊎◌, List, [], ◌∷◌, ◌++◌, length, ℤ, pos, ◌+ℤ◌, filter, ◌==◌, ◌≢◌, slice_index, slice_index_or}
-use Rattle.std.specs.List.{AllByRecursion as All}
+use Rattle.std.specs.List.{AllByRecursion}
 use Rattle.planning.specs.Lists.{In, Ordered}
 use Rattle.slot_set.specs.Sets.{has, members}
 use Rattle.tariff.specs.Charges.{Charge}
@@ -31,7 +31,7 @@ total g p = sum_of (at_slot g) g.needs p
 
 -- slot s is not among these
 abbrev pub Absent : ℕ → List ℕ → Type 0
-Absent s ts = All (λ t. s ≢ t) ts
+Absent s ts = AllByRecursion (λ t. s ≢ t) ts
 
 -- a plan drawn from sets: each slot lies in its set, and no two are alike
 abbrev pub Drawn : List ℕ → List ℕ → Type 0

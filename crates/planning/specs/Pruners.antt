@@ -1,6 +1,6 @@
 -- Pruners: what one is given, what it may answer, and when it is lawful. Assumes nothing.
 use Rattle.std.specs.Prelude.{◌≡◌, ℕ, ◌<◌, true, List, length, ℤ, ◌≤ℤ◌, Some, None, Option}
-use Rattle.std.specs.List.{AllZip, AllByRecursion as All}
+use Rattle.std.specs.List.{AllZip, AllByRecursion}
 use Rattle.slot_set.specs.Sets.{has}
 use Rattle.tariff.specs.Charges.{Need, Price, LawfulTariff}
 use Rattle.planning.specs.Plans.{Given, price, total, Drawn}
@@ -23,11 +23,11 @@ Priced g d = (s : ℕ) → s < 64 → has d s ≡ true → Price (price g s)
 
 -- a lawful sheet: needs in range, a lawful tariff, and for each case a usable set, whose slots have prices in range
 pub record Proper (g : Given) (us : List ℕ) : Type 0 where
-  pub needs : All Need g.needs
+  pub needs : AllByRecursion Need g.needs
   pub greatest : ℕ
   pub tariff : LawfulTariff g.charge greatest
   pub sets : length us ≡ length g.needs
-  pub priced : All (Priced g) us
+  pub priced : AllByRecursion (Priced g) us
 
 -- the three points of a pruner, at a ceiling c and working sets ds
 pub record Points (f : Prune) (g : Given) (c : ℤ) (ds : List ℕ) : Type 0 where

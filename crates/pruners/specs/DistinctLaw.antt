@@ -2,7 +2,7 @@
 use Rattle.std.specs.Prelude.{◌≡◌, ℕ, ◌<◌, Bool, true, false, not, ◌&&◌, ◌||◌, List, [], ◌∷◌, ℤ, ◌≢◌, refl}
 use Rattle.std.proofs.Common.{subst, sym}
 use Rattle.std.proofs.lemmas.Bool.{and_parts, not_from_false, or_from}
-use Rattle.std.specs.List.{AllByRecursion as All}
+use Rattle.std.specs.List.{AllByRecursion}
 use Rattle.slot_set.specs.Sets.{has, single, some_empty}
 use Rattle.planning.specs.Plans.{Absent, Drawn, Given}
 use Rattle.planning.specs.Pruners.{Lawful, Parts, Points, Proper}
@@ -25,13 +25,13 @@ not_claimed t [] p l h n = refl
 not_claimed t (d ∷ ds) [] l h n = absurd h
 not_claimed t (d ∷ ds) (s ∷ p) l h n = or_from (single d && has d t) (claimed t ds) (alone d s t h.0 h.1 l (λ e. n.0 (sym e))) (not_claimed t ds p l h.3 n.1)
 
-not_claimed_more : (d s : ℕ) → s < 64 → has d s ≡ true → (before ds p : List ℕ) → Drawn ds p → Absent s p → All (λ t. claimed t before ≡ false) p → All (λ t. claimed t (d ∷ before) ≡ false) p
+not_claimed_more : (d s : ℕ) → s < 64 → has d s ≡ true → (before ds p : List ℕ) → Drawn ds p → Absent s p → AllByRecursion (λ t. claimed t before ≡ false) p → AllByRecursion (λ t. claimed t (d ∷ before) ≡ false) p
 not_claimed_more d s l k before ds [] h n a = tt
 not_claimed_more d s l k before [] (t ∷ p) h n a = absurd h
 not_claimed_more d s l k before (e ∷ ds) (t ∷ p) h n a =
     (or_from (single d && has d t) (claimed t before) (alone d s t l k h.0 n.0) a.0, not_claimed_more d s l k before ds p h.3 n.1 a.1)
 
-from_drawn : (before ds p : List ℕ) → Drawn ds p → All (λ t. claimed t before ≡ false) p → Drawn (unclaimed before ds) p
+from_drawn : (before ds p : List ℕ) → Drawn ds p → AllByRecursion (λ t. claimed t before ≡ false) p → Drawn (unclaimed before ds) p
 from_drawn before [] p h a = h
 from_drawn before (d ∷ ds) [] h a = h
 from_drawn before (d ∷ ds) (s ∷ p) h a = (
@@ -46,7 +46,7 @@ from_parts : (before ds : List ℕ) → Parts (unclaimed before ds) ds
 from_parts before [] = tt
 from_parts before (d ∷ ds) = ((λ s t. keep_part (λ t. not (claimed t before || claimed t ds)) d s t), from_parts (d ∷ before) ds)
 
-none_claimed : (p : List ℕ) → All (λ t. claimed t [] ≡ false) p
+none_claimed : (p : List ℕ) → AllByRecursion (λ t. claimed t [] ≡ false) p
 none_claimed [] = tt
 none_claimed (s ∷ p) = (refl, none_claimed p)
 

@@ -1,6 +1,6 @@
 // Every refusal of the slot board in one enum: its number, the values that come with it, and words for a person.
 ghost use Rattle.std.specs.Prelude.{◌≡◌};
-ghost use Rattle.refusal.specs.Numbers.{number as number_of_lem, steps as steps_of};
+ghost use Rattle.refusal.specs.Numbers.{number as number_of, steps as steps_of};
 
 use std::fmt;
 
@@ -47,7 +47,7 @@ pub enum Refusal {
 impl Refusal {
     // The number by which callers know the refusal.
     pub fn number(&self) -> u8
-        ensures { result ≡ number_of_lem self.now }
+        ensures { result ≡ number_of self.now }
     {
         match self {
             Refusal::RowRange => 1,

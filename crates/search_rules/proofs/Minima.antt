@@ -3,7 +3,7 @@ use Rattle.std.proofs.Common.{◌≡◌, ℕ, ◌⊎◌, List, [], ◌∷◌, �
 use lib.Signed.{le_z}
 use Rattle.std.proofs.lemmas.Int.{by_lt_z, ints}
 use Rattle.std.proofs.lemmas.Bool.{cond_both}
-use Rattle.std.specs.List.{AllByRecursion as All}
+use Rattle.std.specs.List.{AllByRecursion}
 use Rattle.tariff.specs.Orders.{true_le, ≤ℤ-trans}
 use Rattle.planning.specs.Lists.{In, Ordered}
 use Rattle.planning.specs.Plans.{Before, Given, total}
@@ -44,7 +44,7 @@ module _ (g : Given) where
       ahead q (inr m) = k.ahead q m
 
   -- the first plan fits, and the others are kept below it
-  fits_first : (c : ℤ) (x : List ℕ) (xs : List (List ℕ)) (b r : Option (List ℕ)) → All (Before x) xs → total g x ≤ℤ c →
+  fits_first : (c : ℤ) (x : List ℕ) (xs : List (List ℕ)) (b r : Option (List ℕ)) → AllByRecursion (Before x) xs → total g x ≤ℤ c →
       Kept (total g x -ℤ pos 1) xs (Some x) r → Kept c (x ∷ xs) b r
   fits_first c x xs b r o l (inl k) = inr (record { plan = x; best_is = k.best_is; listed = inl refl; fits = l; ahead = ahead })
     where

@@ -1,7 +1,7 @@
 -- The theorems on the search. Assumes nothing.
 use Rattle.std.proofs.Common.{◌≡◌, ℕ, ◌+◌, ◌≤◌, false, List, [], ◌∷◌, ◌++◌, length, take, ℤ, ◌≤ℤ◌, Some, None, Option, sym, refl, ap, ◌∙◌, subst, inl, inr, zero-add, arith, length-append, take_at}
 use lib.Signed.{clash_ℤ}
-use Rattle.std.specs.List.{AllByRecursion as All}
+use Rattle.std.specs.List.{AllByRecursion}
 use Rattle.planning.specs.Lists.{In, Ordered}
 use Rattle.planning.specs.Plans.{Before, Drawn, Given, Listed, parts, plans, total}
 use Rattle.planning.specs.Verdicts.{some_none}
@@ -23,7 +23,7 @@ from_zero h = omega arith
 not_longer : (xs ys : List (List ℕ)) → length xs ≤ length (xs ++ ys)
 not_longer xs ys = omega (arith, length-append xs ys)
 
-all_left : (P : List ℕ → Type 0) (xs ys : List (List ℕ)) → All P (xs ++ ys) → All P xs
+all_left : (P : List ℕ → Type 0) (xs ys : List (List ℕ)) → AllByRecursion P (xs ++ ys) → AllByRecursion P xs
 all_left P [] ys h = tt
 all_left P (x ∷ xs) ys h = (h.0, all_left P xs ys h.1)
 

@@ -2,7 +2,7 @@
 use Rattle.std.proofs.Common.{◌≡◌, ℕ, suc, ◌+◌, Bool, true, false, cond, List, [], ◌∷◌, ◌++◌, length, ℤ, pos, ◌-ℤ◌, ◌≤ℤ◌, Some, Option, refl, ap, arith}
 use lib.Signed.{le_z, ≤ℤ_refl}
 use Rattle.std.proofs.lemmas.Bool.{cond_both}
-use Rattle.std.specs.List.{AllByRecursion as All}
+use Rattle.std.specs.List.{AllByRecursion}
 use Rattle.tariff.specs.Orders.{true_le, ≤ℤ-trans}
 use Rattle.planning.specs.Plans.{Given, total}
 use Rattle.search_rules.specs.Search.{State}
@@ -41,7 +41,7 @@ module _ (g : Given) where
 
   -- plans over the ceiling change nothing
   abbrev pub Over : ℤ → List (List ℕ) → Type 0
-  Over c qs = All (λ q. total g q ≤ℤ c → ⊥) qs
+  Over c qs = AllByRecursion (λ q. total g q ≤ℤ c → ⊥) qs
 
   pub all_over : (qs : List (List ℕ)) (k : Tally) → Over k.ceil qs → meet_all qs k ≡ k
   all_over [] k h = refl

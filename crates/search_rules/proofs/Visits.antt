@@ -3,7 +3,7 @@ use Rattle.std.proofs.Common.{◌≡◌, ℕ, suc, ◌+◌, ◌^◌, ◌<◌, �
 use lib.Signed.{le_z, ≤ℤ_refl}
 use Rattle.std.proofs.ByRecursion.{All-weaker}
 use Rattle.std.proofs.lemmas.Bool.{both_ways, cases_Bool, cond_both, cond-true, eqb-true}
-use Rattle.std.specs.List.{AllByRecursion as All}
+use Rattle.std.specs.List.{AllByRecursion}
 use Rattle.slot_set.specs.Sets.{every_slot}
 use Rattle.tariff.specs.Orders.{leZ_true, ≤ℤ-trans}
 use Rattle.planning.specs.Plans.{Drawn, Given, add_over, choices, gather, parts, plans, total}
@@ -96,7 +96,7 @@ module _ (g : Given) (limit : ℕ) where
   module _ (F : ℕ → State → State) (n_of : ℕ → ℕ) (L : ℕ → List (List ℕ)) (c : ℤ) (test all : ℕ → Bool) (part : (s : ℕ) → test s ≡ true → all s ≡ true)
       (tried : (s : ℕ) → s < 64 → test s ≡ true → (t : State) → t.ceiling ≤ℤ c → Visited (n_of s) (L s) t (F s t))
       (struck : (s : ℕ) → s < 64 → test s ≡ false → all s ≡ true → Over g c (L s)) where
-    each_visited : (ss : List ℕ) → All (λ s. s < 64) ss → (t : State) → t.ceiling ≤ℤ c →
+    each_visited : (ss : List ℕ) → AllByRecursion (λ s. s < 64) ss → (t : State) → t.ceiling ≤ℤ c →
         let cs : List ℕ = filter all ss in Visited (add_over n_of cs) (gather L cs) t (try_each F (filter test ss) t)
     each_visited [] w t l = idle 0 [] t tt
     each_visited (s ∷ ss) w t l = go (test s) (all s) refl refl (each_visited ss w.1)

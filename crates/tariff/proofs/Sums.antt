@@ -3,7 +3,7 @@ use Rattle.std.proofs.Common.{ℕ, suc, ◌+◌, ◌*◌, ◌≤◌, List, [], �
 use Rattle.std.proofs.lemmas.Nat.{mul-le}
 use Rattle.std.proofs.lemmas.Int.{ints}
 use Rattle.std.proofs.lemmas.Bool.{both_ways, cases_Bool}
-use Rattle.std.specs.List.{AllByRecursion as All}
+use Rattle.std.specs.List.{AllByRecursion}
 use Rattle.tariff.specs.Charges.{Charge, LawfulTariff, Within, in_ranges}
 use Rattle.tariff.specs.Sums.{Charged, SumsSmall, SumsAreSmall, sum_all}
 use Rattle.tariff.specs.Tariffs.{in_told, in_yes}
@@ -22,7 +22,7 @@ module _ (w : Charge) (greatest : ℕ) (law : LawfulTariff w greatest) where
       (λ e. subst (Within greatest) (sym (law.outside a p (λ n r. both_ways (in_ranges a p) e (in_yes a p n r)))) (record { low = omega (arith, ints); high = omega (arith, ints) }))
       (cases_Bool (in_ranges a p))
 
-  each_within : (zs : List ℤ) → All (Charged w) zs → Within (length zs * greatest) (sum_all zs)
+  each_within : (zs : List ℤ) → AllByRecursion (Charged w) zs → Within (length zs * greatest) (sum_all zs)
   each_within [] h = record { low = omega (arith, ints); high = omega (arith, ints) }
   each_within (z ∷ zs) ((a, p, e), h) =
       within_more (greatest + length zs * greatest) (suc (length zs) * greatest) (z +ℤ sum_all zs) (omega arith)

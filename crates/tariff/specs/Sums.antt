@@ -1,6 +1,6 @@
 -- What sums of charges are bounded by. Assumes nothing.
 use Rattle.std.specs.Prelude.{◌≡◌, ℕ, ◌*◌, ◌≤◌, List, [], ◌∷◌, length, ℤ, pos, ◌+ℤ◌}
-use Rattle.std.specs.List.{AllByRecursion as All}
+use Rattle.std.specs.List.{AllByRecursion}
 use Rattle.tariff.specs.Charges.{Charge, Within, LawfulTariff}
 
 -- z is a charge of the tariff
@@ -14,8 +14,8 @@ sum_all (z ∷ zs) = z +ℤ sum_all zs
 
 -- a sum of charges is at most the greatest charge for each from 0, and a sum of up to 16 at most 16 · 10 ^ 12
 pub record SumsSmall (w : Charge) (greatest : ℕ) : Type 0 where
-  pub each : (zs : List ℤ) → All (Charged w) zs → Within (length zs * greatest) (sum_all zs)
-  pub sixteen : (zs : List ℤ) → All (Charged w) zs → length zs ≤ 16 → Within 16000000000000 (sum_all zs)
+  pub each : (zs : List ℤ) → AllByRecursion (Charged w) zs → Within (length zs * greatest) (sum_all zs)
+  pub sixteen : (zs : List ℤ) → AllByRecursion (Charged w) zs → length zs ≤ 16 → Within 16000000000000 (sum_all zs)
 
 -- for every lawful tariff
 abbrev pub SumsAreSmall : Type 0

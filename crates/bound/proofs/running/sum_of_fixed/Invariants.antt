@@ -1,6 +1,6 @@
 use Rattle.std.proofs.Common.{◌≡◌, ◌-◌, ◌*◌, ◌≤◌, drop}
 use Rattle.tariff.specs.Charges.{Within}
-use Rattle.planning.specs.Working.{goal as given_in}
+use Rattle.planning.specs.Working.{given as given_in}
 use Rattle.bound.specs.Bound.{fixed_sum}
 use Rattle.bound.specs.Tables.{rows_in}
 use Rattle.bound.proofs.running.sum_of_fixed.Given as goal

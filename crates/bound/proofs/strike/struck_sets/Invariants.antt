@@ -1,5 +1,5 @@
 use Rattle.std.proofs.Common.{◌≡◌, length, take, drop}
-use Rattle.planning.specs.Working.{goal as given_in}
+use Rattle.planning.specs.Working.{given as given_in}
 use Rattle.bound.specs.Bound.{bound_new}
 use Rattle.bound.specs.Tables.{rows_in}
 use Rattle.bound.proofs.strike.struck_sets.Given as goal

@@ -1,5 +1,5 @@
 use Rattle.std.proofs.Common.{◌≡◌, ℕ, ◌<◌, ◌≤◌, length, get_or, pos}
-use Rattle.planning.specs.Working.{goal as given_in}
+use Rattle.planning.specs.Working.{given as given_in}
 use Rattle.pruners.specs.Sum.{least_in}
 use Rattle.pruners.proofs.sum.leasts_of.Given as goal
 

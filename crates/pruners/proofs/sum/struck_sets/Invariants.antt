@@ -1,5 +1,5 @@
 use Rattle.std.proofs.Common.{◌≡◌, length, take, drop}
-use Rattle.planning.specs.Working.{goal as given_in, sets_in}
+use Rattle.planning.specs.Working.{given as given_in, sets_in}
 use Rattle.pruners.specs.Sum.{sum_strike}
 use Rattle.pruners.proofs.sum.struck_sets.Given as goal
 

@@ -1,6 +1,6 @@
 use Rattle.std.proofs.Common.{◌≡◌}
 use Rattle.stack.specs.Entries.{held}
-use Rattle.planning.specs.Working.{goal as sheet_given}
+use Rattle.planning.specs.Working.{given as sheet_given}
 use Rattle.search.specs.Counts.{remaining, state, ceiling_of}
 use Rattle.search.specs.Frames.{goes}
 use Rattle.search.specs.Runs.{Alike, Ready}

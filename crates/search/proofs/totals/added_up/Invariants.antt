@@ -1,6 +1,6 @@
 use Rattle.std.proofs.Common.{◌≡◌, ◌-◌, ◌*◌, ◌≤◌, take, drop, ℤ, pos, negsuc, neg_ℤ, ◌≤ℤ◌}
 use Rattle.planning.specs.Plans.{sum_of, at_slot}
-use Rattle.planning.specs.Working.{goal as sheet_given}
+use Rattle.planning.specs.Working.{given as sheet_given}
 use Rattle.search.proofs.totals.added_up.Given as goal
 
 abbrev pub invariant-loop-i : goal.invariant-loop-i

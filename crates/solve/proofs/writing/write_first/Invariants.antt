@@ -1,5 +1,5 @@
 use Rattle.std.proofs.Common.{◌≡◌}
-use Rattle.planning.specs.Working.{goal as sheet_given}
+use Rattle.planning.specs.Working.{given as sheet_given}
 use Rattle.solve.specs.Lines.{written}
 use Rattle.solve.proofs.writing.write_first.Given as goal
 
