@@ -5,7 +5,7 @@ use Rattle.slot_set.specs.Sets.{has, keep}
 use Rattle.bound.specs.Figures.{affords}
 use Rattle.bound.proofs.Passing.{passed_in, passed_out, passed_all}
 use Rattle.bound.proofs.strike.affordable_slots.Goals as goal
-use Rattle.bound.proofs.strike.affordable_slots.Goals.{then_in_set+then_affordable, else-in_set, else_in_set_via_then_in_set+else_affordable, else-in_set-via-else-in_set}
+use Rattle.bound.proofs.strike.affordable_slots.Goals.{then-in_set+then-affordable, else-in_set, else-in_set-via-then-in_set+else-affordable, else-in_set-via-else-in_set}
 
 pub loop-s-preserved : goal.loop-s-preserved
 loop-s-preserved g c =
@@ -14,13 +14,13 @@ loop-s-preserved g c =
     let f : ℕ → Bool = affords c.args.work.now (g.T.Tariff.charges c.args.tariff.now) c.args.figures.now (to_z w64 (of_z w64 c.args.ceiling)) c.args.case in
     let x : ℕ → Bool = λ t. has d t && f t in
     elim c.if-in_set.branch [
-      | then_in_set+then_affordable w ↦
+      | then-in_set+then-affordable w ↦
           let there : true ≡ has d s = w.if-in_set.ensures in
           let stays : true ≡ f s = w.if-affordable.ensures in
           passed_in x s c.loop-s.word c.if-in_set.word (omega arith) w.word-is (and_from (has d s) (f s) (sym there) (sym stays)) c.loop-s.invariant
       | else-in_set w ↦ passed_out x s c.loop-s.word c.if-in_set.word w.word-is
           (elim w.else-in_set.branch [
-            | else_in_set_via_then_in_set+else_affordable v ↦ let goes : false ≡ f s = v.if-affordable.ensures in and_right (has d s) (f s) (sym goes)
+            | else-in_set-via-then-in_set+else-affordable v ↦ let goes : false ≡ f s = v.if-affordable.ensures in and_right (has d s) (f s) (sym goes)
             | else-in_set-via-else-in_set v ↦ let there : false ≡ has d s = v.if-in_set.ensures in and_left (has d s) (f s) (sym there)
           ])
           c.loop-s.invariant

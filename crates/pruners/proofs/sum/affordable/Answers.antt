@@ -6,7 +6,7 @@ use Rattle.slot_set.specs.Sets.{has, keep}
 use Rattle.pruners.proofs.Affording.{passed_none, passed_in, passed_out, passed_all}
 use Rattle.pruners.proofs.Least.{charge_small}
 use Rattle.pruners.proofs.sum.affordable.Goals as goal
-use Rattle.pruners.proofs.sum.affordable.Goals.{then_in_set+then_within, else-in_set, else_in_set_via_then_in_set+else_within, else-in_set-via-else-in_set}
+use Rattle.pruners.proofs.sum.affordable.Goals.{then-in_set+then-within, else-in_set, else-in_set-via-then-in_set+else-within, else-in_set-via-else-in_set}
 
 pub within-requires : goal.within-requires
 within-requires g c =
@@ -33,14 +33,14 @@ loop-s-preserved g c =
     let tested : (z : ℤ) (b : Bool) → SFits w64 z → z ≡ charge s → b ≡ le_z (o +ℤ to_z w64 (of_z w64 z)) k → f s ≡ b =
     λ z b fits e t. sym (t ∙ ap (λ y. le_z (o +ℤ y) k) (to_z-of_z w64 z fits ∙ e)) in
     elim c.if-in_set.branch [
-      | then_in_set+then_within w ↦
+      | then-in_set+then-within w ↦
           let there : true ≡ has d s = w.if-in_set.ensures in
           passed_in x s c.loop-s.word c.if-in_set.word (omega arith) w.word-is
           (and_from (has d s) (f s) (sym there) (tested w.charge_at.result true (search rules) w.charge_at.ensures w.if-within.ensures))
           c.loop-s.invariant
       | else-in_set w ↦ passed_out x s c.loop-s.word c.if-in_set.word w.word-is
           (elim w.else-in_set.branch [
-            | else_in_set_via_then_in_set+else_within v ↦ and_right (has d s) (f s) (tested v.charge_at.result false (search rules) v.charge_at.ensures v.if-within.ensures)
+            | else-in_set-via-then-in_set+else-within v ↦ and_right (has d s) (f s) (tested v.charge_at.result false (search rules) v.charge_at.ensures v.if-within.ensures)
             | else-in_set-via-else-in_set v ↦ let there : false ≡ has d s = v.if-in_set.ensures in and_left (has d s) (f s) (sym there)
           ])
           c.loop-s.invariant

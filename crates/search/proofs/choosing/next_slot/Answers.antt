@@ -2,7 +2,7 @@ use Rattle.std.proofs.Common.{◌≡◌, take, sym, ap, ◌∙◌, arith}
 use Rattle.std.proofs.lemmas.Bool.{cond-true, lt-ltb}
 use Rattle.search.proofs.Untried.{untried_none, untried_absent, untried_used, untried_here}
 use Rattle.search.proofs.choosing.next_slot.Goals as goal
-use Rattle.search.proofs.choosing.next_slot.Goals.{else_holds_via_then_holds+else_not_uses, else-holds-via-else-holds}
+use Rattle.search.proofs.choosing.next_slot.Goals.{else-holds-via-then-holds+else-not-uses, else-holds-via-else-holds}
 
 pub returns-then-not-uses : goal.returns-then-not-uses
 returns-then-not-uses c = record {
@@ -16,7 +16,7 @@ returns-then-not-uses c = record {
 pub loop-slot-preserved : goal.loop-slot-preserved
 loop-slot-preserved c =
     c.loop-slot.invariant ∙ elim c.else-holds.branch [
-      | else_holds_via_then_holds+else_not_uses w ↦
+      | else-holds-via-then-holds+else-not-uses w ↦
           untried_used (take c.args.depth c.args.plan.now) c.args.word c.loop-slot.slot c.loop-slot-test.true (sym w.if-holds.ensures) (sym w.if-not-uses.ensures)
       | else-holds-via-else-holds w ↦
           untried_absent (take c.args.depth c.args.plan.now) c.args.word c.loop-slot.slot c.loop-slot-test.true (sym w.if-holds.ensures)

@@ -6,7 +6,7 @@ use Rattle.planning.specs.Working.{given}
 use Rattle.search.specs.Counts.{state, ceiling_of}
 use Rattle.search.specs.Frames.{goes}
 use Rattle.search.proofs.Root.{sound_start, from_root, alike_then, alike_at, ended, stopped, says}
-use Rattle.search.proofs.exploring.run.Goals.{then_loop_outcome_test+else_height_gt0, else-loop-outcome-test}
+use Rattle.search.proofs.exploring.run.Goals.{then-loop-outcome-test+else-height-gt0, else-loop-outcome-test}
 use Rattle.search.proofs.exploring.run.Goals as goal
 
 pub enter-requires : goal.enter-requires
@@ -43,7 +43,7 @@ returns g c =
     let last : state c.enter.new.sheet.count c.loop-outcome.outcome (ceiling_of c.loop-outcome.guard)
     ≡ goes (given c.enter.new.sheet (g.T.Tariff.charges c.args.tariff.now)) (g.P.Pruner.prunes c.args.pruner.now) c.args.limit c.enter.new.sheet.count c.loop-outcome.plan (held c.loop-outcome.decisions) (held c.loop-outcome.saved) c.loop-outcome.sheet.sets (state c.enter.new.sheet.count c.loop-outcome.outcome (ceiling_of c.loop-outcome.guard)) =
     elim c.loop-outcome-test.branch [
-      | then_loop_outcome_test+else_height_gt0 w ↦ ended (given c.enter.new.sheet (g.T.Tariff.charges c.args.tariff.now)) (g.P.Pruner.prunes c.args.pruner.now) c.args.limit c.enter.new.sheet.count
+      | then-loop-outcome-test+else-height-gt0 w ↦ ended (given c.enter.new.sheet (g.T.Tariff.charges c.args.tariff.now)) (g.P.Pruner.prunes c.args.pruner.now) c.args.limit c.enter.new.sheet.count
           c.loop-outcome.plan (held c.loop-outcome.decisions) (held c.loop-outcome.saved) c.loop-outcome.sheet.sets (state c.enter.new.sheet.count c.loop-outcome.outcome (ceiling_of c.loop-outcome.guard)) (held_none c.loop-outcome.decisions (omega (arith, w.height.ensures, w.if-height-gt0.false)))
       | else-loop-outcome-test w ↦ stopped (given c.enter.new.sheet (g.T.Tariff.charges c.args.tariff.now)) (g.P.Pruner.prunes c.args.pruner.now) c.args.limit c.enter.new.sheet.count
           c.loop-outcome.plan (held c.loop-outcome.decisions) (held c.loop-outcome.saved) c.loop-outcome.sheet.sets (state c.enter.new.sheet.count c.loop-outcome.outcome (ceiling_of c.loop-outcome.guard)) w.loop-outcome-test.false

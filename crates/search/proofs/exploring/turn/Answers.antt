@@ -18,13 +18,13 @@ invariant_of-sheet g c =
     let h = c.args.sheet.now in
     let s : Sound h.opened c.put_back.new.saved c.put_back.new.sets =
     sound_back h.opened c.args.saved.now c.put_back.new.saved h.sets c.put_back.new.sets c.take_latest-latest.result.mark c.requires.ready.saved c.put_back.ensures.low c.put_back.ensures.long c.put_back.ensures.saved c.put_back.ensures.sets in
-    (h.places, (s.sixteen, (h.few, (h.needed, (h.priced, (sound_open h.opened c.put_back.new.saved c.put_back.new.sets s, tt))))))
+    record { places = h.places; sized = s.sixteen; few = h.few; needed = h.needed; priced = h.priced; usable = sound_open h.opened c.put_back.new.saved c.put_back.new.sets s }
 
 pub invariant_of-sheet-2 : goal.invariant_of-sheet-2
 invariant_of-sheet-2 g c =
     let h = c.args.sheet.now in
     let s : Sound h.opened c.change.new.saved c.change.new.sets = c.change.ensures.room in
-    (h.places, (s.sixteen, (h.few, (h.needed, (h.priced, (sound_open h.opened c.change.new.saved c.change.new.sets s, tt))))))
+    record { places = h.places; sized = s.sixteen; few = h.few; needed = h.needed; priced = h.priced; usable = sound_open h.opened c.change.new.saved c.change.new.sets s }
 
 pub returns-then-slot-eq64 : goal.returns-then-slot-eq64
 returns-then-slot-eq64 g c =

@@ -32,13 +32,13 @@ invariant_of-sheet g c =
     let h = c.args.sheet.now in
     let s : Sound h.opened c.put_back.new.saved c.put_back.new.sets =
     sound_back h.opened c.args.saved.now c.put_back.new.saved h.sets c.put_back.new.sets c.args.mark c.requires.room c.put_back.ensures.low c.put_back.ensures.long c.put_back.ensures.saved c.put_back.ensures.sets in
-    (h.places, (s.sixteen, (h.few, (h.needed, (h.priced, (sound_open h.opened c.put_back.new.saved c.put_back.new.sets s, tt))))))
+    record { places = h.places; sized = s.sixteen; few = h.few; needed = h.needed; priced = h.priced; usable = sound_open h.opened c.put_back.new.saved c.put_back.new.sets s }
 
 pub invariant_of-sheet-2 : goal.invariant_of-sheet-2
 invariant_of-sheet-2 g c =
     let h = c.args.sheet.now in
     let s : Sound h.opened c.adopt.new.saved c.adopt.new.sets = c.adopt.ensures.room in
-    (h.places, (s.sixteen, (h.few, (h.needed, (h.priced, (sound_open h.opened c.adopt.new.saved c.adopt.new.sets s, tt))))))
+    record { places = h.places; sized = s.sixteen; few = h.few; needed = h.needed; priced = h.priced; usable = sound_open h.opened c.adopt.new.saved c.adopt.new.sets s }
 
 -- what was answered, at the ceiling as it was passed
 meant : (f : ℤ → Option (List ℕ)) (z : ℤ) → SFits w64 z → (o : Option (List ℕ)) → o ≡ f (to_z w64 (of_z w64 z)) → o ≡ f z

@@ -40,7 +40,7 @@ invariant_of-sheet g c =
     let h = c.args.sheet.now in
     let s : Sound h.opened c.put_back.new.saved c.put_back.new.sets =
     sound_back h.opened c.args.saved.now c.put_back.new.saved h.sets c.put_back.new.sets c.args.mark c.requires.ready.saved c.put_back.ensures.low c.put_back.ensures.long c.put_back.ensures.saved c.put_back.ensures.sets in
-    (h.places, (s.sixteen, (h.few, (h.needed, (h.priced, (sound_open h.opened c.put_back.new.saved c.put_back.new.sets s, tt))))))
+    record { places = h.places; sized = s.sixteen; few = h.few; needed = h.needed; priced = h.priced; usable = sound_open h.opened c.put_back.new.saved c.put_back.new.sets s }
 
 pub returns-then-height-sheet : goal.returns-then-height-sheet
 returns-then-height-sheet g c =
