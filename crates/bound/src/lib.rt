@@ -1,4 +1,6 @@
 // The pruner Bound.
+#![tactic(auto)]
+
 ghost use Rattle.bound.specs.Bound.{PlaceIsCount, BoundBySums};
 ghost use Rattle.bound.specs.House.{HouseLawful};
 ghost use Rattle.bound.specs.Worked.{WorkedFigures};

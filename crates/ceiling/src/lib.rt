@@ -1,4 +1,6 @@
 // The ceiling of a search, and a guard that puts it back.
+#![tactic(auto)]
+
 ghost use Rattle.std.specs.Prelude.{◌≡◌};
 
 // The ceiling record: the one number that a plan's total must not exceed.

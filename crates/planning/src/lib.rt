@@ -1,4 +1,6 @@
 // Plans, working sheets and pruners.
+#![tactic(auto)]
+
 ghost use Rattle.planning.specs.Plans.{PartPlansAreListed, PlansAreOrdered, PlansListed};
 ghost use Rattle.planning.specs.Pruners.{PilesLawful};
 

@@ -1,4 +1,5 @@
 // The house pruners Distinct and Sum.
+#![tactic(auto)]
 
 mod distinct;
 mod sets;

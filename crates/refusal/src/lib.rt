@@ -1,4 +1,6 @@
 // Every refusal of the slot board in one enum: its number, the values that come with it, and words for a person.
+#![tactic(auto)]
+
 ghost use Rattle.std.specs.Prelude.{◌≡◌};
 ghost use Rattle.refusal.specs.Numbers.{number as number_of, steps as steps_of};
 

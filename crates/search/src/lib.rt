@@ -1,5 +1,7 @@
 // The search for the cheapest plan: part-plans one case deeper at a time, cut short by a pruner and by a ceiling that
 // goes just below each new best plan. It uses no memory but the places that it is lent.
+#![tactic(auto)]
+
 mod choosing;
 mod deciding;
 mod exploring;

@@ -1,5 +1,7 @@
 // The search as it is written down, and what it comes to with any lawful pruner. The definitions compute; the crate
 // `search` has the code that is proved equal to them.
+#![tactic(auto)]
+
 ghost use Rattle.search_rules.specs.Right.{SearchRight, BetteringsCounted};
 
 // With any lawful tariff and pruner the search finds the cheapest plan within the ceiling, of equals the first in plan

@@ -1,4 +1,6 @@
 // The sheet: 16 rows for cases, 64 slots with prices, the five edits and the two questions.
+#![tactic(auto)]
+
 ghost use Rattle.std.specs.Prelude.{◌≡◌, ℕ, ◌<◌, ◌≤◌, not, map, ℤ, is_some, None, Option as Maybe, MatchResult, OnOk};
 ghost use Rattle.std.specs.Option.{option_map};
 ghost use Rattle.refusal.specs.declared.Refusal.TheVariants.{RowEmpty};

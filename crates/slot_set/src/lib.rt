@@ -1,5 +1,7 @@
 // Sets of slots. A slot is one place of the day that takes one case, by its number from 0 to 63;
 // a set is a 64-bit word in which slot s weighs 2^s.
+#![tactic(auto)]
+
 ghost use Rattle.std.specs.Prelude.{◌≡◌, ℕ, true, false, ◌&&◌, ◌||◌, ◌==◌, bit_and, nat_lt};
 ghost use Rattle.slot_set.specs.Sets.{has, NoSlot, SomeSlot};
 

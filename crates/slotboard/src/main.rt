@@ -1,5 +1,7 @@
 // The slot board as a program: reads a script of calls, one a line, performs each on one board from new,
 // and prints each line and what the board answered. The board itself is in the library `board`.
+#![tactic(auto)]
+
 mod answer;
 mod fault;
 mod parse;

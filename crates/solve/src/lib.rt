@@ -1,4 +1,6 @@
 // One solve of a sheet.
+#![tactic(auto)]
+
 ghost use Rattle.std.specs.Prelude.{◌≡◌, length, take};
 ghost use Rattle.sheet.specs.Contents.{contents};
 ghost use Rattle.planning.specs.Working.{given, sets_in};

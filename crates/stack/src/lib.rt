@@ -1,4 +1,6 @@
 // A stack over lent places: no memory of its own, and never more entries than places.
+#![tactic(auto)]
+
 ghost use Rattle.std.specs.Prelude.{◌≤◌, length};
 
 mod ops;

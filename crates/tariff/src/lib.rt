@@ -1,4 +1,6 @@
 // Tariffs: what a case is charged for its need in a slot of a price.
+#![tactic(auto)]
+
 ghost use Rattle.tariff.specs.Sums.{SumsAreSmall};
 
 mod block;
