@@ -1,5 +1,5 @@
 -- What an edit in a trial leaves, remembered or not. Assumes nothing.
-use Rattle.std.proofs.Common.{◌≡◌, ℕ, suc, ◌<◌, ◌≤◌, leb, List, [], ◌∷◌, length, Some, None, Ok, Err, Option, Result, sym, refl, ap, ◌∙◌, subst, arith}
+use Rattle.std.proofs.Common.{◌≡◌, ℕ, suc, ◌<◌, ◌≤◌, leb, List, [], ◌∷◌, length, Some, None, Ok, Option, Result, sym, refl, ap, ◌∙◌, arith}
 use Rattle.std.proofs.lemmas.Bool.{cond-true, cond-false, le-leb, lt-leb}
 use Rattle.refusal.specs.declared.Refusal.{Refusal}
 use Rattle.refusal.specs.declared.Refusal.TheVariants.{TrialFull}
@@ -8,7 +8,7 @@ use Rattle.sheet.specs.declared.undo.Undo.{Undo}
 use Rattle.sheet.specs.Contents.{Contents}
 use Rattle.sheet.specs.Edits.{check, refusal, change, after, answer}
 use Rattle.sheet.specs.Undoing.{undone}
-use Rattle.board.specs.Past.{Phase.Inside, Taken.Edits, Left, left, or_check, edit_refusal, edited, called}
+use Rattle.board.specs.Past.{Phase.Inside, Taken.Edits, left, or_check, edit_refusal, edited, called}
 use Rattle.board.specs.Views.{unwound}
 
 -- a call that answered Ok was not refused

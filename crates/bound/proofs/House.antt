@@ -1,6 +1,6 @@
 -- Every house pruner is lawful. Assumes nothing.
 use Rattle.planning.specs.Piles.{piles_lawful}
-use Rattle.bound.specs.House.{House, Distinct, Sum, Bound, Pile, HouseLawful, prune_by}
+use Rattle.bound.specs.House.{Distinct, Sum, Bound, Pile, HouseLawful, prune_by}
 use Rattle.bound.specs.BoundLaw.{bound_lawful}
 use Rattle.pruners.specs.DistinctLaw.{distinct_lawful}
 use Rattle.pruners.specs.SumLaw.{sum_lawful}

@@ -1,9 +1,9 @@
 -- The plans that begin with a part-plan. Assumes nothing.
-use Rattle.std.proofs.Common.{◌≡◌, ℕ, ◌+◌, ◌-◌, ◌<◌, Bool, true, false, not, ◌&&◌, eqb, List, [], ◌∷◌, ◌++◌, set, filter, sym, refl, ◌∙◌, subst, inl, inr, append_assoc, append-nil}
+use Rattle.std.proofs.Common.{◌≡◌, ℕ, ◌<◌, Bool, true, false, not, ◌&&◌, eqb, List, [], ◌∷◌, ◌++◌, filter, sym, refl, ◌∙◌, subst, inl, inr, append_assoc, append-nil}
 use Rattle.std.proofs.lemmas.Bool.{and_from, and_parts, eqb-false, ne_eqb, not_from_false, not-true, or_from, or_parts}
 use Rattle.std.specs.List.{AllByRecursion}
 use Rattle.planning.specs.Lists.{In, Ordered}
-use Rattle.slot_set.specs.Sets.{every_slot, from, has}
+use Rattle.slot_set.specs.Sets.{every_slot, has}
 use Rattle.planning.specs.Plans.{Absent, Before, Drawn, choices, used}
 use Rattle.planning.proofs.Lists.{all_in, all_kept, ordered_kept}
 use Rattle.planning.proofs.Slots.{below_every, every_rises, in_slots, kept_twice}

@@ -6,7 +6,7 @@ use Rattle.planning.specs.Pruners.{Prune}
 use Rattle.search_rules.specs.Search.{State, visit, try_each}
 use Rattle.search.specs.declared.saving.Saved.{Saved}
 use Rattle.search.specs.declared.deciding.Decision.{Decision}
-use Rattle.search.specs.Frames.{after_slot, frames, goes, untried, resume}
+use Rattle.search.specs.Frames.{after_slot, goes, untried, resume}
 use Rattle.search.specs.Saves.{undone, kept}
 use Rattle.search.proofs.Undone.{kept_low, undone_low}
 use Rattle.search.proofs.Visits.{frames_plan}

@@ -3,7 +3,7 @@ use Rattle.std.proofs.Common.{◌≡◌, ℕ, suc, ◌-◌, ◌*◌, ◌^◌, �
 use lib.Count.{ones-le}
 use Rattle.std.proofs.lemmas.List.{length-take-le}
 use Rattle.stack.specs.declared.Stack.{Stack}
-use Rattle.stack.specs.Entries.{held, room}
+use Rattle.stack.specs.Entries.{room}
 use Rattle.stack.proofs.Laws.{held_none}
 use Rattle.tariff.specs.Charges.{Charge}
 use Rattle.planning.specs.declared.working_sheet.WorkingSheet.{WorkingSheet}

@@ -1,5 +1,5 @@
 -- The search as a list of frames: the part-plans that were asked and not left, the latest first. Assumes nothing.
-use Rattle.std.specs.Prelude.{ℕ, suc, ◌+◌, ◌-◌, ◌^◌, not, List, [], ◌∷◌, ◌++◌, length, take, set, filter, slice_index, slice_set}
+use Rattle.std.specs.Prelude.{ℕ, suc, ◌+◌, ◌-◌, ◌^◌, not, List, [], ◌∷◌, ◌++◌, length, take, filter, slice_index, slice_set}
 use Rattle.slot_set.specs.Sets.{has, from}
 use Rattle.planning.specs.Plans.{Given, used}
 use Rattle.planning.specs.Pruners.{Prune}

@@ -1,5 +1,5 @@
 -- The search for the cheapest plan: part-plans are visited one case deeper at a time. Assumes nothing.
-use Rattle.std.specs.Prelude.{ℕ, zero, suc, ◌^◌, Bool, true, false, cond, List, [], ◌∷◌, ◌++◌, length, set, ℤ, pos, ◌-ℤ◌, Some, None, Option, ◌==◌, int_le, slice_index, slice_set}
+use Rattle.std.specs.Prelude.{ℕ, zero, suc, ◌^◌, Bool, true, false, cond, List, [], ◌∷◌, ◌++◌, length, ℤ, pos, ◌-ℤ◌, Some, None, Option, ◌==◌, int_le, slice_index, slice_set}
 use Rattle.planning.specs.Plans.{Given, total, choices}
 use Rattle.planning.specs.Pruners.{Prune}
 

@@ -1,14 +1,14 @@
 -- One row changed in its place is the edit of the whole sheet. Assumes nothing.
-use Rattle.std.proofs.Common.{◌≡◌, ℕ, ◌<◌, ◌≤◌, not, List, map, length, get_or, set, is_some, IfOk, Some, None, Ok, Err, Option, Result, sym, refl, ap, ◌∙◌, subst, MatchResult}
+use Rattle.std.proofs.Common.{◌≡◌, ℕ, ◌<◌, ◌≤◌, not, List, map, length, get_or, set, is_some, IfOk, Some, None, Ok, Err, Option, Result, sym, ap, ◌∙◌, subst, MatchResult}
 use Rattle.std.specs.Option.{option_map}
 use Rattle.std.proofs.lemmas.List.{map-set, set-get_or}
 use Rattle.std.proofs.lemmas.Bool.{cond-false, le-ltb}
 use Rattle.refusal.specs.declared.Refusal.{Refusal}
-use Rattle.refusal.specs.declared.Refusal.TheVariants.{RowRange, RowEmpty}
+use Rattle.refusal.specs.declared.Refusal.TheVariants.{RowEmpty}
 use Rattle.sheet.specs.declared.case.Case.{Case}
 use Rattle.sheet.specs.declared.Sheet.{Sheet}
 use Rattle.sheet.specs.declared.edit.Edit.TheVariants.{Allow}
-use Rattle.sheet.specs.Contents.{Contents, Entry, contents, entry, case_in, with_row}
+use Rattle.sheet.specs.Contents.{Contents, Entry, contents, entry, case_in}
 use Rattle.sheet.specs.Edits.{refusal, after, answer, check, slots_refusal, allowing}
 use Rattle.sheet.proofs.Tables.{some_mapped, place_read, place_written}
 

@@ -1,5 +1,5 @@
 -- What a sheet holds, in plain numbers. Assumes nothing.
-use Rattle.std.specs.Prelude.{ℕ, Bool, cond, ◌&&◌, List, map, set, replicate, ℤ, is_some, Some, None, Option, nat_lt, slice_index_or, slice_set}
+use Rattle.std.specs.Prelude.{ℕ, Bool, cond, ◌&&◌, List, map, replicate, ℤ, is_some, None, Option, nat_lt, slice_index_or, slice_set}
 use Rattle.std.specs.Option.{option_map}
 use Rattle.slot_set.specs.Sets.{has}
 use Rattle.sheet.specs.declared.case.Case.{Case}

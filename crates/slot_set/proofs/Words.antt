@@ -1,9 +1,9 @@
 -- What the operations on words do to membership. Assumes nothing.
-use Rattle.std.proofs.Common.{◌≡◌, ℕ, zero, suc, ◌+◌, ◌-◌, ◌*◌, ◌/◌, ◌%◌, ◌^◌, ◌<◌, ◌≤◌, Bool, true, false, not, ◌&&◌, ◌||◌, eqb, ltb, ◌⊎◌, sym, refl, ap, ◌∙◌, inl, inr, ⊎_elim, pow-suc, div-add-mod', div-one, mul-div_cancel, one-add, arith}
+use Rattle.std.proofs.Common.{◌≡◌, ℕ, zero, suc, ◌+◌, ◌-◌, ◌/◌, ◌%◌, ◌^◌, ◌<◌, ◌≤◌, true, false, not, ◌&&◌, ◌||◌, eqb, sym, refl, ap, ◌∙◌, ⊎_elim, pow-suc, div-add-mod', div-one, mul-div_cancel, one-add, arith}
 use native.Mathlib.Nat.{zero-div, mul-mod_left}
 use lib.Bits.{bit_and, bit_or, and_shr, or_shr, and_mod, or_mod}
-use Rattle.std.proofs.lemmas.Bool.{eqb-true, eqb-false, eq-eqb, ne_eqb, cases_eq, cases_Bool, true≢false, false≢true}
-use Rattle.std.proofs.lemmas.Nat.{shr-shr, div_below, mod_below, pow_pos}
+use Rattle.std.proofs.lemmas.Bool.{eq-eqb, ne_eqb, cases_eq, true≢false, false≢true}
+use Rattle.std.proofs.lemmas.Nat.{shr-shr, div_below, mod_below}
 use Rattle.slot_set.specs.Sets.{has}
 
 pub has_suc : (w s : ℕ) → has w (suc s) ≡ has (w / 2) s

@@ -14,7 +14,7 @@ use Rattle.search_rules.specs.Search.{State, searched}
 use Rattle.search_rules.specs.Right.{Counted, Right}
 use Rattle.search_rules.proofs.Solved.{betterings_counted, search_right}
 use Rattle.solve.specs.declared.answer.Answer.{Answer}
-use Rattle.solve.specs.declared.answer.Answer.TheVariants.{Cheapest, Stopped, StoppedEmpty}
+use Rattle.solve.specs.declared.answer.Answer.TheVariants.{Cheapest, Stopped}
 use Rattle.solve.specs.declared.answer.Best.{Best}
 use Rattle.solve.specs.declared.line.Line.{Line}
 use Rattle.solve.specs.Lines.{written}

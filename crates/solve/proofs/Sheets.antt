@@ -1,10 +1,9 @@
 -- A working sheet made from a sheet is given what the sheet is. Assumes nothing.
-use Rattle.std.proofs.Common.{◌≡◌, ℕ, ◌≤◌, List, map, length, take, ℤ, sym, ap, ◌∙◌, ap₂, arith}
+use Rattle.std.proofs.Common.{◌≡◌, ℕ, List, length, take, ℤ, sym, ap, ◌∙◌, ap₂, arith}
 use Rattle.std.proofs.lemmas.List.{length-map, length-take-le}
 use Rattle.tariff.specs.Charges.{Charge}
 use Rattle.sheet.specs.Contents.{Contents}
 use Rattle.planning.specs.declared.working_sheet.WorkingSheet.{WorkingSheet}
-use Rattle.planning.specs.Plans.{Given}
 use Rattle.planning.specs.Standing.{Standing, needs_of, prices_of, standing, usable_set, usable_sets}
 use Rattle.planning.specs.Working.{given, sets_in}
 use Rattle.solve.specs.Solved.{cases_of, given_of}

@@ -1,5 +1,5 @@
 -- The lines of a plan. Assumes nothing.
-use Rattle.std.specs.Prelude.{ℕ, zero, suc, List, [], ◌∷◌, ◌++◌, length, drop, slice_index}
+use Rattle.std.specs.Prelude.{ℕ, zero, suc, List, [], ◌∷◌, ◌++◌, drop, slice_index}
 use Rattle.planning.specs.Plans.{Given, at_slot}
 use Rattle.solve.specs.declared.line.Line.{Line}
 

@@ -1,7 +1,7 @@
 -- The charges of needs 6 and 5 at prices 2 and 5, rounded up to tens, break the exchange law. Assumes nothing.
 use Rattle.std.proofs.Common.{pos, ◌+ℤ◌, ◌≤ℤ◌, arith}
 use Rattle.std.proofs.lemmas.Int.{ints}
-use Rattle.tariff.specs.Rounding.{rounded, RoundedIsUnlawful}
+use Rattle.tariff.specs.Rounding.{RoundedIsUnlawful}
 
 -- 20 and 30 are not within 30 and 10
 pub rounded_is_unlawful : RoundedIsUnlawful

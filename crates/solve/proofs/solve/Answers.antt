@@ -1,5 +1,4 @@
-use Rattle.std.proofs.Common.{◌≡◌, ℕ, List, length, take, Option, sym, ap, ◌∙◌, subst}
-use Rattle.refusal.specs.declared.Refusal.{Refusal}
+use Rattle.std.proofs.Common.{◌≡◌, ℕ, List, length, take, ap, ◌∙◌, subst}
 use Rattle.sheet.specs.Contents.{contents}
 use Rattle.planning.specs.Plans.{Given}
 use Rattle.planning.specs.Pruners.{Proper}

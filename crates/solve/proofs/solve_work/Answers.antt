@@ -1,11 +1,11 @@
-use Rattle.std.proofs.Common.{◌≡◌, ◌≤◌, length, take, None, sym, refl, ap, ◌∙◌}
+use Rattle.std.proofs.Common.{◌≡◌, length, take, None, sym, refl, ap, ◌∙◌}
 use Rattle.std.proofs.lemmas.Bool.{both_ways}
 use Rattle.planning.specs.Working.{given as sheet_given, sets_in}
 use Rattle.search.specs.Outcomes.{enough}
 use Rattle.search_rules.specs.Search.{searched}
 use Rattle.solve.specs.Solved.{checked, listed, request}
 use Rattle.solve.proofs.Answering.{passed_plan, passed_said, refused_plan, refused_said, says_finished, untouched_passed, untouched_same}
-use Rattle.solve.proofs.Checks.{Passed, enough_there, passed}
+use Rattle.solve.proofs.Checks.{enough_there, passed}
 use Rattle.solve.proofs.solve_work.Goals as goal
 
 pub returns-in-Some : goal.returns-in-Some

@@ -1,4 +1,4 @@
-use Rattle.std.proofs.Common.{◌≡◌, ℕ, ◌+◌, ◌≢◌, get_or, set, ℤ, pos, ◌+ℤ◌, sym, ap, ◌∙◌, ⊎_elim, add-one, arith, w64, to_z, of_z, rules}
+use Rattle.std.proofs.Common.{◌≡◌, ℕ, ◌+◌, ◌≢◌, get_or, set, ℤ, pos, ◌+ℤ◌, sym, ap, ◌∙◌, ⊎_elim, add-one, arith, w64, to_z, of_z}
 use Rattle.std.proofs.lemmas.List.{get_or-set_other, get_or-set_same, length-set}
 use Rattle.std.proofs.lemmas.Int.{ints}
 use Rattle.std.proofs.lemmas.Bool.{cases_eq}

@@ -1,4 +1,4 @@
-use Rattle.std.proofs.Common.{◌≡◌, ◌+◌, true, false, length, get_or, take, drop, set, sym, ap, ◌∙◌, arith, w64, to_z, of_z, rules}
+use Rattle.std.proofs.Common.{◌≡◌, ◌+◌, true, false, length, get_or, take, drop, set, sym, ap, ◌∙◌, arith, w64, to_z, of_z}
 use Rattle.std.proofs.lemmas.List.{drop-set-lt, get_or-set_same, length-set, take_all, take_more_same, take-set}
 use Rattle.std.proofs.lemmas.Int.{to_z-of_z}
 use Rattle.slot_set.specs.Sets.{single}

@@ -1,4 +1,4 @@
-use Rattle.std.proofs.Common.{◌≡◌, take, sym, ap, ◌∙◌, arith}
+use Rattle.std.proofs.Common.{take, sym, ◌∙◌, arith}
 use Rattle.std.proofs.lemmas.Bool.{cond-true, lt-ltb}
 use Rattle.search.proofs.Untried.{untried_none, untried_absent, untried_used, untried_here}
 use Rattle.search.proofs.choosing.next_slot.Goals as goal

@@ -1,4 +1,4 @@
-use Rattle.std.proofs.Common.{◌≡◌, ◌-◌, ◌≤◌, take}
+use Rattle.std.proofs.Common.{◌≡◌, ◌-◌, take}
 use Rattle.search.specs.Frames.{untried}
 use Rattle.search.proofs.choosing.next_slot.Given as goal
 

@@ -1,8 +1,8 @@
-use Rattle.std.proofs.Common.{◌≡◌, ℕ, ◌<◌, ◌≤◌, length, get_or, set, sym, refl, ap, ◌∙◌, subst, inl, inr, ⊎_elim, arith, rules}
+use Rattle.std.proofs.Common.{◌≡◌, ℕ, ◌<◌, get_or, set, sym, refl, ap, ◌∙◌, ⊎_elim, arith, rules}
 use lib.Count.{ones}
 use Rattle.std.proofs.lemmas.List.{set-get_or}
-use Rattle.stack.specs.Entries.{held, room}
-use Rattle.search.specs.Saves.{Since, Sound, Fewer}
+use Rattle.stack.specs.Entries.{held}
+use Rattle.search.specs.Saves.{Fewer}
 use Rattle.search.proofs.Undone.{held_length, through_top, weight_at, since_push, sound_push, since_same}
 use Rattle.search.proofs.Words.{part_fewer}
 use Rattle.search.proofs.saving.change.Goals as goal

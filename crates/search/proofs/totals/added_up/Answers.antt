@@ -1,6 +1,6 @@
-use Rattle.std.proofs.Common.{◌≡◌, ◌-◌, ◌<◌, ◌≤◌, length, get_or, take, drop, ℤ, pos, negsuc, ◌+ℤ◌, ◌≤ℤ◌, sym, refl, ap, ◌∙◌, subst, arith, w64, SFits, to_z, of_z, rules}
+use Rattle.std.proofs.Common.{◌≡◌, ◌-◌, get_or, take, pos, sym, ap, ◌∙◌, arith, w64, SFits, to_z, of_z, rules}
 use Rattle.std.proofs.lemmas.Int.{ints, to_z-of_z}
-use Rattle.planning.specs.Plans.{sum_of, at_slot}
+use Rattle.planning.specs.Plans.{at_slot}
 use Rattle.planning.specs.Working.{given as sheet_given}
 use Rattle.tariff.proofs.Sums.{charge_within}
 use Rattle.search.proofs.Sums.{sum_end, sum_down, sum_turn}

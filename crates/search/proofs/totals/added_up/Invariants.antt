@@ -1,4 +1,4 @@
-use Rattle.std.proofs.Common.{◌≡◌, ◌-◌, ◌*◌, ◌≤◌, take, drop, ℤ, pos, negsuc, neg_ℤ, ◌≤ℤ◌}
+use Rattle.std.proofs.Common.{◌≡◌, ◌-◌, ◌*◌, ◌≤◌, take, drop, pos, neg_ℤ, ◌≤ℤ◌}
 use Rattle.planning.specs.Plans.{sum_of, at_slot}
 use Rattle.planning.specs.Working.{given as sheet_given}
 use Rattle.search.proofs.totals.added_up.Given as goal

@@ -1,7 +1,7 @@
 use Rattle.std.proofs.Common.{ap, ◌∙◌}
 use Rattle.std.proofs.lemmas.Bool.{cond-false, le-ltb}
 use Rattle.std.specs.Option.{option_map}
-use Rattle.sheet.specs.Contents.{Contents, contents, amount}
+use Rattle.sheet.specs.Contents.{contents, amount}
 use Rattle.sheet.proofs.Tables.{place_back}
 use Rattle.sheet.proofs.Sheet.undo_slot.Goals as goal
 

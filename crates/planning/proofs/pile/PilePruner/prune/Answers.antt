@@ -1,4 +1,4 @@
-use Rattle.std.proofs.Common.{ℤ, w64, to_z, of_z}
+use Rattle.std.proofs.Common.{w64, to_z, of_z}
 use Rattle.planning.proofs.Sheets.{points_kept, open_parts}
 use Rattle.planning.proofs.pile.PilePruner.prune.Goals as goal
 
