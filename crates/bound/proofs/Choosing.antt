@@ -9,7 +9,7 @@ use Rattle.planning.specs.declared.working_sheet.WorkingSheet.{WorkingSheet}
 use Rattle.bound.specs.declared.figures.Figures.{Figures}
 use Rattle.bound.specs.Orderings.{count}
 use Rattle.bound.specs.Bound.{BySums, C, L, R, Row, bound, bound_at, free_of, pair, slot_before, smaller, union}
-use Rattle.bound.specs.Figures.{Matching, RightFigures, chosen, last_rank, shifted, whole}
+use Rattle.bound.specs.Figures.{Matching, RightFigures, chosen, shifted, whole}
 use Rattle.bound.specs.Tables.{row_rank, rows_in}
 use Rattle.bound.proofs.BySums.{bound_by_sums}
 use Rattle.bound.proofs.Places.{place_is_count, row_rank_below}
@@ -18,7 +18,7 @@ use Rattle.bound.proofs.Places.{place_is_count, row_rank_below}
 
 module _ (f : Figures) (i j : ℕ) (w : ℤ) where
   abbrev later : ℤ
-  later = shifted f.fixed f.level f.lower f.cases w i (last_rank j f.cases)
+  later = shifted f.fixed f.level f.lower f.cases w i (cond (ltb j f.cases) j (f.cases - 1))
 
   abbrev earlier : ℤ
   earlier = shifted f.fixed f.level f.upper f.cases w j i
@@ -38,8 +38,8 @@ module _ (f : Figures) (i j : ℕ) (w : ℤ) where
   pub is_same : (z : ℤ) → j ≡ i → z ≡ whole f → z ≡ chosen f i j w
   is_same z e q = q ∙ sym (chosen_same e)
 
-  pub is_later : (z v : ℤ) → i < j → z ≡ shifted f.fixed f.level f.lower f.cases v i (last_rank j f.cases) → v ≡ w → z ≡ chosen f i j w
-  is_later z v l q e = q ∙ ap (λ (y : ℤ). shifted f.fixed f.level f.lower f.cases y i (last_rank j f.cases)) e ∙ sym (chosen_later l)
+  pub is_later : (z v : ℤ) (b : ℕ) → i < j → z ≡ shifted f.fixed f.level f.lower f.cases v i b → v ≡ w → b ≡ cond (ltb j f.cases) j (f.cases - 1) → z ≡ chosen f i j w
+  is_later z v b l q e k = q ∙ ap₂ (λ (y : ℤ) (x : ℕ). shifted f.fixed f.level f.lower f.cases y i x) e k ∙ sym (chosen_later l)
 
   pub is_earlier : (z v : ℤ) → j < i → z ≡ shifted f.fixed f.level f.upper f.cases v j i → v ≡ w → z ≡ chosen f i j w
   is_earlier z v l q e = q ∙ ap (λ y. shifted f.fixed f.level f.upper f.cases y j i) e ∙ sym (chosen_earlier l)
