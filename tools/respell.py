@@ -15,7 +15,9 @@ import sys
 WORD = r'[^\s(){}.;,@"«»]+'
 DASHED = re.compile(r"[A-Za-z_◌][\w'◌]*(?:-[\w'◌]+)+|[A-Z]\w*_\w+")
 HEADS = {'goal', 'given', 'c', 'w', 'l', 'g', 'v'}
-LABELS = ('Answers.antt', 'Invariants.antt')
+LABELS = re.compile(r'/proofs/.*/(Answers|Invariants)\.antt$')
+# words of an older library inside names of ours, and a name that begins with an operator
+WORDS = {'≤ℤ-trans': '≤ℤ_trans', 'leZ_true': 'int_le_true', 'ltZ_false': 'int_lt_false', 'in_getD': 'in_get_or'}
 
 
 def files(ending):
@@ -34,7 +36,7 @@ def declared():
     """Each name that an .antt file declares at its own level, with what it is."""
     found = collections.defaultdict(set)
     for path in files('.antt'):
-        if path.endswith(LABELS):
+        if LABELS.search(path):
             continue
         lines = uncommented(open(path).read()).split('\n')
         block, depth = None, 0
@@ -128,12 +130,15 @@ def spans(comment, names):
 
 
 def turn_file(path, names):
-    text = open(path).read()
+    old = open(path).read()
+    text = old
+    for word, other in WORDS.items():
+        text = re.sub(r"(?<![\w'-])" + word + r"(?![\w'-])", other, text)
     if path.endswith('.md'):
         new = spans(text, names)
     else:
         mark = '--' if path.endswith('.antt') else '//'
-        answers = path.endswith(LABELS)
+        answers = bool(LABELS.search(path))
         stay = imported(text) | (made(text) if answers else set())
         quiet = re.compile(r'"(?:[^"\\\n]|\\.)*"|(?<![\w])' + mark + r'[^\n]*')
         out, at = [], 0
@@ -143,7 +148,7 @@ def turn_file(path, names):
             at = m.end()
         out.append(turned(text[at:], names, stay, answers))
         new = ''.join(out)
-    if new != text:
+    if new != old:
         open(path, 'w').write(new)
         return True
     return False

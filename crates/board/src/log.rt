@@ -118,10 +118,10 @@ fn perform_trial(mut trial: Trial, call: Call) -> (Board, Reply)
     (Board::Trial(trial), reply)
 }
 
-fn reply_to(res: Result<(), Refusal>) -> Reply
-    ensures { (q : Maybe Refusal) → res ≡ answer q → said result ≡ outcome q }
+fn reply_to(returned: Result<(), Refusal>) -> Reply
+    ensures { (q : Maybe Refusal) → returned ≡ answer q → said result ≡ outcome q }
 {
-    match res {
+    match returned {
         Ok(()) => Reply::Done,
         Err(refusal) => Reply::Refused(refusal),
     }

@@ -6,7 +6,7 @@ use Rattle.slot_set.specs.Sets.{single, some_empty}
 use Rattle.planning.specs.Plans.{Drawn, Given, total}
 use Rattle.planning.specs.Pruners.{Lawful, Parts, Points, Proper}
 use Rattle.bound.specs.Bound.{Row, U, V, bound, bound_at, bound_prune, bound_strike, rows_from}
-use Rattle.tariff.specs.Orders.{leZ_true, ltZ_false, ≤ℤ-trans}
+use Rattle.tariff.specs.Orders.{int_le_true, int_lt_false, ≤ℤ_trans}
 use Rattle.planning.proofs.Lists.{all_from_in}
 use Rattle.planning.proofs.Slots.{drawn_full}
 use Rattle.planning.specs.Verdicts.{none_not, some_is}
@@ -31,12 +31,12 @@ module _ (g : Given) (c : ℤ) (ds : List ℕ) (ok : Proper g ds) where
     stays : Drawn struck p
     stays = strike_drawn g (λ i. slice_index p i) keeps_at 0 g.needs ds p (follows p) ok.sets h
         (all_from_in (λ r. single r.slots ≡ false → keeps_at r (slice_index p r.row) ≡ true) rs
-        (λ r m n. leZ_true (bound_at g rs r (slice_index p r.row)) c (≤ℤ-trans (bound_at_under g ds p ok h r m n) t)))
+        (λ r m n. int_le_true (bound_at g rs r (slice_index p r.row)) c (≤ℤ_trans (bound_at_under g ds p ok h r m n) t)))
 
     lives : dead_at_once ≡ false
     lives = or_from (some_empty ds || nat_lt (length (V g rs)) (length (U rs))) (int_lt c (bound g rs))
         (or_from (some_empty ds) (nat_lt (length (V g rs)) (length (U rs))) (drawn_full ds p h) (le-ltb (length (V g rs)) (length (U rs)) (bound_under g ds p ok h).0))
-        (ltZ_false c (bound g rs) (≤ℤ-trans (bound_under g ds p ok h).1 t))
+        (int_lt_false c (bound g rs) (≤ℤ_trans (bound_under g ds p ok h).1 t))
 
   bound_points : Points bound_prune g c ds
   bound_points = record {

@@ -7,8 +7,8 @@ abbrev pub Open : ℕ → List ℕ → Type 0
 Open opened ds = (i s : ℕ) → has (slice_index ds i) s ≡ true → has opened s ≡ true
 
 -- each open slot has a price in range
-abbrev pub Priced_slots : ℕ → List ℤ → Type 0
-Priced_slots opened ps = (s : ℕ) → has opened s ≡ true → (neg_ℤ (pos 50000) ≤ℤ slice_index_or ps s (pos 0)) × (slice_index_or ps s (pos 0) ≤ℤ pos 50000)
+abbrev pub PricedSlots : ℕ → List ℤ → Type 0
+PricedSlots opened ps = (s : ℕ) → has opened s ≡ true → (neg_ℤ (pos 50000) ≤ℤ slice_index_or ps s (pos 0)) × (slice_index_or ps s (pos 0) ≤ℤ pos 50000)
 
 -- the first n needs are in range
 abbrev pub Needed : ℕ → List ℕ → Type 0

@@ -1,5 +1,5 @@
 ghost use Rattle.std.specs.Prelude.{◌≡◌, ◌≤◌, length};
-ghost use Rattle.planning.specs.Invariants.{Open, Priced_slots, Needed};
+ghost use Rattle.planning.specs.Invariants.{Open, PricedSlots, Needed};
 
 mod ops;
 
@@ -18,7 +18,7 @@ pub struct WorkingSheet {
     ghost sized: { length sets ≡ 16 },
     ghost few: { count ≤ 16 },
     ghost needed: { Needed count needs },
-    ghost priced: { Priced_slots opened prices },
+    ghost priced: { PricedSlots opened prices },
     // no working set holds a closed slot, so that no pruner tests for a missing price
     ghost usable: { Open opened sets },
 }

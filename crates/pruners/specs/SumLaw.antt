@@ -9,7 +9,7 @@ use Rattle.slot_set.specs.Sets.{has, members, some_empty}
 use Rattle.planning.specs.Plans.{Drawn, Given, at_slot, sum_of}
 use Rattle.planning.specs.Pruners.{Lawful, Parts, Points, Proper}
 use Rattle.pruners.specs.Sum.{least, least_in, leasts, sum, sum_strike}
-use Rattle.tariff.specs.Orders.{leZ_true, ltZ_false, ≤ℤ-trans}
+use Rattle.tariff.specs.Orders.{int_le_true, int_lt_false, ≤ℤ_trans}
 use Rattle.planning.proofs.Slots.{drawn_full, in_slots, keep_has, keep_part}
 use Rattle.planning.specs.Verdicts.{none_not, some_is}
 use Rattle.planning.specs.Parts.{lawful_from}
@@ -52,7 +52,7 @@ module _ (g : Given) where
       let y = leasts_le ns ds p h.3 in (
         h.0,
         keep_has (λ s. int_le ((m -ℤ least_in g a d) +ℤ at_slot g a s) c) d s h.0 h.1
-            (leZ_true ((m -ℤ least_in g a d) +ℤ at_slot g a s) c (omega (arith, ints, x, y, k))),
+            (int_le_true ((m -ℤ least_in g a d) +ℤ at_slot g a s) c (omega (arith, ints, x, y, k))),
         h.2,
         strike_drawn c m ns ds p (omega arith) h.3 (omega (arith, ints, x, y, k)),
       )
@@ -65,7 +65,7 @@ sum_points g c ds ok =
       part = λ es e. subst (λ (xs : List ℕ). Parts xs ds) (sym (some_is (some_empty ds) (int_lt c m) es fs e)) (strike_parts g c m g.needs ds ok.sets);
       keeps = λ es e p h t. subst (λ (xs : List ℕ). Drawn xs p) (sym (some_is (some_empty ds) (int_lt c m) es fs e))
           (strike_drawn g c m g.needs ds p ok.sets h (omega (arith, ints, t)));
-      dead = λ e p h t. none_not (some_empty ds) (int_lt c m) fs e (drawn_full ds p h) (ltZ_false c m (≤ℤ-trans (leasts_le g g.needs ds p h) t));
+      dead = λ e p h t. none_not (some_empty ds) (int_lt c m) fs e (drawn_full ds p h) (int_lt_false c m (≤ℤ_trans (leasts_le g g.needs ds p h) t));
     }
 
 pub sum_lawful : Lawful sum

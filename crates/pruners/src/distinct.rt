@@ -1,4 +1,4 @@
-ghost use Rattle.std.specs.Prelude.{◌≡◌, ℕ, ◌<◌, ◌≤◌, not, ◌&&◌, [], take, drop, set, slice_index, slice_set};
+ghost use Rattle.std.specs.Prelude.{◌≡◌, ℕ, ◌<◌, ◌≤◌, not, ◌&&◌, [], take, drop, slice_index, slice_set};
 ghost use Rattle.slot_set.specs.Sets.{has, single};
 ghost use Rattle.pruners.specs.Distinct.{claimed, unclaimed, distinct};
 ghost use Rattle.pruners.specs.DistinctLaw.{distinct_lawful};

@@ -4,7 +4,7 @@ use lib.Signed.{le_z}
 use Rattle.std.proofs.lemmas.Int.{by_lt_z, ints}
 use Rattle.std.proofs.lemmas.Bool.{cond_both}
 use Rattle.std.specs.List.{AllByRecursion}
-use Rattle.tariff.specs.Orders.{true_le, ≤ℤ-trans}
+use Rattle.tariff.specs.Orders.{true_le, ≤ℤ_trans}
 use Rattle.planning.specs.Lists.{In, Ordered}
 use Rattle.planning.specs.Plans.{Before, Given, total}
 use Rattle.planning.proofs.Lists.{all_in}
@@ -55,7 +55,7 @@ module _ (g : Given) where
       ahead : (q : List ℕ) → In q (x ∷ xs) → Ahead x q
       ahead q (inl e) = inl e
       ahead q (inr m) = later q m (split (total g x) (total g q) (k.over q m))
-  fits_first c x xs b r o l (inr k) = inr (still c (total g x -ℤ pos 1) x xs r k (≤ℤ-trans k.fits (below_le l)) (omega (arith, ints, k.fits)))
+  fits_first c x xs b r o l (inr k) = inr (still c (total g x -ℤ pos 1) x xs r k (≤ℤ_trans k.fits (below_le l)) (omega (arith, ints, k.fits)))
 
   -- the first plan is over the ceiling
   over_first : (c : ℤ) (x : List ℕ) (xs : List (List ℕ)) (b r : Option (List ℕ)) → c <ℤ total g x → Kept c xs b r → Kept c (x ∷ xs) b r

@@ -3,7 +3,7 @@ use Rattle.std.proofs.Common.{◌≡◌, ℕ, suc, ◌+◌, Bool, true, false, c
 use lib.Signed.{le_z, ≤ℤ_refl}
 use Rattle.std.proofs.lemmas.Bool.{cond_both}
 use Rattle.std.specs.List.{AllByRecursion}
-use Rattle.tariff.specs.Orders.{true_le, ≤ℤ-trans}
+use Rattle.tariff.specs.Orders.{true_le, ≤ℤ_trans}
 use Rattle.planning.specs.Plans.{Given, total}
 use Rattle.search_rules.specs.Search.{State}
 use Rattle.search_rules.specs.Right.{last_of, minima}
@@ -37,7 +37,7 @@ module _ (g : Given) where
   pub meet_lower : (qs : List (List ℕ)) (k : Tally) → (meet_all qs k).ceil ≤ℤ k.ceil
   meet_lower [] k = ≤ℤ_refl k.ceil
   meet_lower (q ∷ qs) k = cond_both (le_z (total g q) k.ceil) (bettered q k) k (λ j. (meet_all qs j).ceil ≤ℤ k.ceil)
-      (λ e. ≤ℤ-trans (meet_lower qs (bettered q k)) (below_le (true_le (total g q) k.ceil e))) (λ _. meet_lower qs k)
+      (λ e. ≤ℤ_trans (meet_lower qs (bettered q k)) (below_le (true_le (total g q) k.ceil e))) (λ _. meet_lower qs k)
 
   -- plans over the ceiling change nothing
   abbrev pub Over : ℤ → List (List ℕ) → Type 0

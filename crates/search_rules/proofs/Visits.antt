@@ -5,7 +5,7 @@ use Rattle.std.proofs.ByRecursion.{All-weaker}
 use Rattle.std.proofs.lemmas.Bool.{both_ways, cases_Bool, cond_both, cond-true, eqb-true}
 use Rattle.std.specs.List.{AllByRecursion}
 use Rattle.slot_set.specs.Sets.{every_slot}
-use Rattle.tariff.specs.Orders.{leZ_true, ≤ℤ-trans}
+use Rattle.tariff.specs.Orders.{int_le_true, ≤ℤ_trans}
 use Rattle.planning.specs.Plans.{Drawn, Given, add_over, choices, gather, parts, plans, total}
 use Rattle.planning.specs.Pruners.{Parts, Points, Prune}
 use Rattle.planning.proofs.Slots.{below_every}
@@ -89,7 +89,7 @@ module _ (g : Given) (limit : ℕ) where
       cond_both (le_z (total g p) t.ceiling) (better g p t) t (Visited 0 (p ∷ []) t)
       (λ e. let m : tally (better g p t) ≡ meet_all g (p ∷ []) (tally t) = sym (cond-true (le_z (total g p) t.ceiling) (bettered g p (tally t)) (tally t) e) in
       record { stays = λ s'. absurd (both_ways t.stopped s s'); met_first = (p ∷ [], [], refl, m); met_all = λ _. m; goes = λ x _. (x, omega arith) })
-      (λ e. idle 0 (p ∷ []) t ((λ l. both_ways (le_z (total g p) t.ceiling) e (leZ_true (total g p) t.ceiling l)), tt))
+      (λ e. idle 0 (p ∷ []) t ((λ l. both_ways (le_z (total g p) t.ceiling) e (int_le_true (total g p) t.ceiling l)), tt))
 
   -- ---- each slot in turn: of the slots that pass all, those that pass the test are tried
 
@@ -111,11 +111,11 @@ module _ (g : Given) (limit : ℕ) where
             Visited (add_over n_of (cond b' (s ∷ ys) ys)) (gather L (cond b' (s ∷ ys) ys)) t (try_each F (cond b (s ∷ xs) xs) t)
         go true true x y ih =
             let h : Visited (n_of s) (L s) t (F s t) = tried s w.0 x t l in
-            one_then (n_of s) (add_over n_of ys) (L s) (gather L ys) t (F s t) (try_each F xs (F s t)) h (ih (F s t) (≤ℤ-trans (lower (n_of s) (L s) t (F s t) h) l))
+            one_then (n_of s) (add_over n_of ys) (L s) (gather L ys) t (F s t) (try_each F xs (F s t)) h (ih (F s t) (≤ℤ_trans (lower (n_of s) (L s) t (F s t) h) l))
         go true false x y ih = absurd (both_ways (all s) y (part s x))
         go false true x y ih =
             one_then (n_of s) (add_over n_of ys) (L s) (gather L ys) t t (try_each F xs t)
-            (idle (n_of s) (L s) t (All-weaker (λ q. total g q ≤ℤ c → ⊥) (λ q. total g q ≤ℤ t.ceiling → ⊥) (λ q h k. h (≤ℤ-trans k l)) (L s) (struck s w.0 x y)))
+            (idle (n_of s) (L s) t (All-weaker (λ q. total g q ≤ℤ c → ⊥) (λ q. total g q ≤ℤ t.ceiling → ⊥) (λ q h k. h (≤ℤ_trans k l)) (L s) (struck s w.0 x y)))
             (ih t l)
         go false false x y ih = ih t l
 
@@ -161,7 +161,7 @@ module _ (g : Given) (limit : ℕ) where
           tried s k e u l =
               ih (p ++ (s ∷ [])) (set es (length p) (2 ^ s)) u
               (parts_trans (set es (length p) (2 ^ s)) es us (parts_set es (length p) s (open_is p next s e).0) n) (inside_next p es d D s (2 ^ s) i)
-              (λ q b r. choice_set p es s D q b (drawn s k (part s e) q b (≤ℤ-trans r l)))
+              (λ q b r. choice_set p es s D q b (drawn s k (part s e) q b (≤ℤ_trans r l)))
 
           struck : (s : ℕ) → s < 64 → open_slot p next s ≡ false → open_slot p d s ≡ true → Over g t.ceiling (L s)
           struck s k e a =

@@ -7,7 +7,7 @@ use Rattle.std.proofs.lemmas.Nat.{div-add-mod', le-div}
 use Rattle.std.proofs.lemmas.Int.{ints}
 use Rattle.std.proofs.lemmas.Bool.{and_from, and_parts, cond_both, cond-true, le-leb, leb-true}
 use Rattle.tariff.specs.Charges.{LawfulTariff, Need, Price, Within, blocks, by_units, in_ranges, plain, block}
-use Rattle.tariff.specs.Orders.{leZ_true, true_le}
+use Rattle.tariff.specs.Orders.{int_le_true, true_le}
 
 -- ---- charges in proportion to the price, by a number of units that rises with the need
 
@@ -40,7 +40,7 @@ pub in_yes : (a : ℕ) (p : ℤ) → Need a → Price p → in_ranges a p ≡ tr
 in_yes a p n r =
     and_from (nat_le 1 a && nat_le a 20000) (int_le (neg_ℤ (pos 50000)) p && int_le p (pos 50000))
     (and_from (nat_le 1 a) (nat_le a 20000) (le-leb 1 a n.low) (le-leb a 20000 n.high))
-    (and_from (int_le (neg_ℤ (pos 50000)) p) (int_le p (pos 50000)) (leZ_true (neg_ℤ (pos 50000)) p r.low) (leZ_true p (pos 50000) r.high))
+    (and_from (int_le (neg_ℤ (pos 50000)) p) (int_le p (pos 50000)) (int_le_true (neg_ℤ (pos 50000)) p r.low) (int_le_true p (pos 50000) r.high))
 
 pub in_told : (a : ℕ) (p : ℤ) → in_ranges a p ≡ true → Need a × Price p
 in_told a p e =

@@ -1,4 +1,4 @@
-ghost use Rattle.std.specs.Prelude.{◌≡◌, ℕ, ◌+◌, ◌<◌, ◌≤◌, [], ◌∷◌, ◌++◌, map, take, set, pos, bit_and, slice_index, slice_set};
+ghost use Rattle.std.specs.Prelude.{◌≡◌, ℕ, ◌+◌, ◌<◌, ◌≤◌, [], ◌∷◌, ◌++◌, map, take, pos, bit_and, slice_index, slice_set};
 ghost use Rattle.std.specs.Option.{option_map, unwrap_or};
 ghost use Rattle.slot_set.specs.Sets.{has, keep};
 ghost use Rattle.sheet.specs.Contents.{contents, entry, amount, is_open};
