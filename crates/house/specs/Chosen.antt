@@ -2,12 +2,12 @@
 use Rattle.tariff.specs.Charges.{Charge, plain, block}
 use Rattle.planning.specs.Pruners.{Prune}
 use Rattle.bound.specs.House as house
-use Rattle.house.specs.declared.tariffs.HouseTariff.{HouseTariff}
-use Rattle.house.specs.declared.tariffs.HouseTariff.TheVariants.{Plain, Block}
-use Rattle.house.specs.declared.pruners.HousePruner.{HousePruner}
-use Rattle.house.specs.declared.pruners.HousePruner.TheVariants.{Distinct, Sum, Bound}
-use Rattle.house.specs.declared.pruners.HousePile.{HousePile}
-use Rattle.house.specs.declared.pruners.HousePile.TheVariants.{One, Two, Three}
+use Rattle.house.specs.declared.named_tariffs.HouseTariff.{HouseTariff}
+use Rattle.house.specs.declared.named_tariffs.HouseTariff.TheVariants.{Plain, Block}
+use Rattle.house.specs.declared.named_pruners.HousePruner.{HousePruner}
+use Rattle.house.specs.declared.named_pruners.HousePruner.TheVariants.{Distinct, Sum, Bound}
+use Rattle.house.specs.declared.named_pruners.HousePile.{HousePile}
+use Rattle.house.specs.declared.named_pruners.HousePile.TheVariants.{One, Two, Three}
 
 abbrev pub charges_of : HouseTariff → Charge
 charges_of Plain = plain

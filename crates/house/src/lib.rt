@@ -1,8 +1,8 @@
 // The tariffs and the pruners of the house as two enums, so that a log or a script can name any of them.
 #![tactic(auto)]
 
-mod pruners;
-mod tariffs;
+mod named_pruners;
+mod named_tariffs;
 
-pub use pruners::{HousePile, HousePruner};
-pub use tariffs::HouseTariff;
+pub use named_pruners::{HousePile, HousePruner};
+pub use named_tariffs::HouseTariff;

@@ -1,6 +1,6 @@
 ghost use Rattle.house.specs.Chosen.{charges_of};
 ghost use Rattle.tariff.specs.Tariffs.{plain_lawful, block_lawful};
-ghost use Rattle.house.specs.declared.tariffs.HouseTariff.TheVariants.{Plain, Block};
+ghost use Rattle.house.specs.declared.named_tariffs.HouseTariff.TheVariants.{Plain, Block};
 
 use tariff::{Block, Plain, Tariff};
 
