@@ -17,7 +17,7 @@ DASHED = re.compile(r"[A-Za-z_◌][\w'◌]*(?:-[\w'◌]+)+|[A-Z]\w*_\w+")
 HEADS = {'goal', 'given', 'c', 'w', 'l', 'g', 'v'}
 LABELS = re.compile(r'/proofs/.*/(Answers|Invariants)\.antt$')
 # words of an older library inside names of ours, and a name that begins with an operator
-WORDS = {'≤ℤ-trans': '≤ℤ_trans', 'leZ_true': 'int_le_true', 'ltZ_false': 'int_lt_false', 'in_getD': 'in_get_or'}
+WORDS = {'≤ℤ-trans': '≤ℤ_trans', 'leZ-true': 'int_le_true', 'ltZ-false': 'int_lt_false', 'in-getD': 'in_get_or'}
 
 
 def files(ending):
