@@ -108,6 +108,9 @@ def turned(code, names, stay, answers):
             new = name
         elif re.search(r'\w\Z', before):
             new = name
+        elif answers and (before.endswith('+') or code[at:at + 1] == '+'):
+            # a way into a join, named by its tests
+            new = name
         elif answers:
             chain = re.search(r"([\w'\-+]+(?:\.[\w'\-+]+)*)\.\Z", before)
             if chain:
