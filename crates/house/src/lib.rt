@@ -1,4 +1,4 @@
-// The tariffs and the pruners of the house as two enums, so that a log or a script can name any of them.
+// The tariffs and the pruners of the house as enums, so that one value can be any of them, or a pile of up to three.
 #![tactic(auto)]
 
 mod named_pruners;
