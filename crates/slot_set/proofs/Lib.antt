@@ -1,2 +1,4 @@
 pub mod Counts
+pub mod Keeps
+pub mod Lowest
 pub mod Words

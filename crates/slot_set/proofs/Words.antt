@@ -1,9 +1,9 @@
 -- What the operations on words do to membership. Assumes nothing.
-use Rattle.std.proofs.Common.{◌≡◌, ℕ, zero, suc, ◌+◌, ◌-◌, ◌/◌, ◌%◌, ◌^◌, ◌<◌, ◌≤◌, true, false, not, ◌&&◌, ◌||◌, eqb, sym, refl, ap, ◌∙◌, ⊎_elim, pow-suc, div-add-mod', div-one, mul-div_cancel, one-add, arith}
+use Rattle.std.proofs.Common.{◌≡◌, ℕ, zero, suc, ltb, ◌*◌, ◌+◌, ◌-◌, ◌/◌, ◌%◌, ◌^◌, ◌<◌, ◌≤◌, true, false, not, ◌&&◌, ◌||◌, eqb, sym, refl, ap, ◌∙◌, ⊎_elim, pow-suc, div-add-mod', div-one, mul-div_cancel, one-add, arith}
 use native.Mathlib.Nat.{zero-div, mul-mod_left}
 use lib.Bits.{bit_and, bit_or, and_shr, or_shr, and_mod, or_mod}
-use Rattle.std.proofs.lemmas.Bool.{eq-eqb, ne_eqb, cases_eq, true≢false, false≢true}
-use Rattle.std.proofs.lemmas.Nat.{shr-shr, div_below, mod_below}
+use Rattle.std.proofs.lemmas.Bool.{and_left, cases_lt, le-ltb, lt-ltb, eq-eqb, ne_eqb, cases_eq, true≢false, false≢true}
+use Rattle.std.proofs.lemmas.Nat.{one_shl, shr-shr, div_below, mod_below}
 use Rattle.slot_set.specs.Sets.{has}
 
 pub has_suc : (w s : ℕ) → has w (suc s) ≡ has (w / 2) s
@@ -123,3 +123,23 @@ has_not (suc k) w (suc s) h l =
     ∙ ap (λ x. has x s) half
     ∙ has_not k (w / 2) s (half_below w k h) (omega arith)
     ∙ ap not (sym (has_suc w s))
+
+-- the meet with a complement has the slots that the other lacks
+pub has_without : (a b s : ℕ) → a < 2 ^ 64 → b < 2 ^ 64 → has (bit_and a ((2 ^ 64 - 1) - b)) s ≡ (has a s && not (has b s))
+has_without a b s h k = has_and a ((2 ^ 64 - 1) - b) s ∙ ⊎_elim
+    (λ l. ap (λ t. has a s && t) (has_not 64 b s k l))
+    (λ l. let none = has_beyond 64 a s h l in
+    and_left (has a s) (has ((2 ^ 64 - 1) - b) s) none ∙ sym (and_left (has a s) (not (has b s)) none))
+    (cases_lt s 64)
+
+-- a word of 64 bits with slot s, below 64, written into it
+pub has_with : (w slot s : ℕ) → slot < 64 → has (bit_or w (1 * 2 ^ slot % 18446744073709551616)) s ≡ (has w s || (ltb slot 64 && eqb s slot))
+has_with w slot s l =
+    ap (λ x. has (bit_or w x) s) (one_shl slot 64 l)
+    ∙ has_or w (2 ^ slot) s
+    ∙ ap (λ b. has w s || b) (has_pow slot s)
+    ∙ sym (ap (λ b. has w s || (b && eqb s slot)) (lt-ltb slot 64 l))
+
+-- no word of 64 bits has a slot from 64 on
+pub has_past : (w s : ℕ) → w < 18446744073709551616 → 64 ≤ s → ltb s 64 ≡ has w s
+has_past w s h l = le-ltb s 64 l ∙ sym (has_beyond 64 w s h l)

@@ -1,5 +1,5 @@
 -- Sets of slots: a set is a word in which slot s weighs 2 ^ s. Assumes nothing.
-use Rattle.std.specs.Prelude.{◌≡◌, ℕ, zero, suc, ◌+◌, ◌/◌, ◌%◌, ◌^◌, ◌<◌, Bool, true, false, ◌||◌, List, [], ◌∷◌, length, filter, ◌==◌}
+use Rattle.std.specs.Prelude.{◌≡◌, ℕ, zero, suc, ◌+◌, ◌/◌, ◌%◌, ◌^◌, ◌<◌, Bool, true, false, ◌||◌, List, [], ◌∷◌, length, filter, ◌==◌, Some, None, Option}
 
 -- slot s is in the set
 abbrev pub has : ℕ → ℕ → Bool
@@ -38,6 +38,11 @@ keep f word = word_of (filter f (members word))
 -- the set has exactly one slot
 abbrev pub single : ℕ → Bool
 single word = length (members word) == 1
+
+-- the slot of a set that has exactly one, and nothing of any other set
+abbrev pub OnlySlot : ℕ → Option ℕ → Type 0
+OnlySlot word None = single word ≡ false
+OnlySlot word (Some s) = (single word ≡ true) × (s < 64) × (has word s ≡ true)
 
 -- one of the sets is empty
 abbrev pub some_empty : List ℕ → Bool
