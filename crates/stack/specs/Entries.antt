@@ -1,5 +1,5 @@
 -- The entries of a stack, the latest first. Assumes nothing.
-use Rattle.std.specs.Prelude.{◌≡◌, ℕ, ◌+◌, List, [], ◌∷◌, reverse, length, take, Some, None, Option}
+use Rattle.std.specs.Prelude.{◌≡◌, ℕ, ◌+◌, Bool, true, false, List, [], ◌∷◌, reverse, length, take, Some, None, Ok, Err, Option, Result}
 use Rattle.stack.specs.declared.Stack.{Stack}
 
 -- the first h places, the latest first. Shut unless a proof opens it, so that contracts speak of entries alone
@@ -13,6 +13,11 @@ held s = entries s.height s.places.now
 -- how many entries a stack has places for
 abbrev pub room : {X : Type 0} → Stack X → ℕ
 room s = length s.places.now
+
+-- what a push of e answers: e back where there was no room
+abbrev pub pushed : {X : Type 0} → Bool → X → Result (Unit {0}) X
+pushed true e = Ok tt
+pushed false e = Err e
 
 -- taking the latest entry off s leaves t: nothing is taken off an empty stack, and else the latest entry alone
 abbrev pub Popped : {X : Type 0} → Option X → Stack X → Stack X → Type 0

@@ -1,38 +1,40 @@
 ghost use Rattle.std.specs.Prelude.{◌≡◌, ◌+◌, ◌<◌, [], ◌∷◌, length, if◌then◌else◌, nat_lt};
-ghost use Rattle.stack.specs.Entries.{held, room, Popped};
+ghost use Rattle.stack.specs.Entries.{held, room, Popped, pushed};
 
 use crate::Stack;
 
 impl<'a, T: Copy> Stack<'a, T> {
     // An empty stack over these places.
+    #[tactic(auto, using(crate::proofs::Laws::entries_none))]
     pub fn over(places: &'a mut [T]) -> Stack<'a, T>
         ensures held { held result ≡ [] }
         ensures height { result.height ≡ 0 }
         ensures room { room result ≡ length places.old }
     {
-        Stack::empty(places)
+        Stack { places, height: 0 }
     }
 
-    // How many entries it holds.
+    // How many entries it holds: the number of taken places.
+    #[tactic(auto, using(crate::proofs::Laws::length_entries))]
     pub fn height(&self) -> usize
         ensures height { result ≡ self.now.height }
         ensures held { result ≡ length (held self.now) }
     {
-        self.taken()
+        self.height
     }
 
-    // Puts an entry on top. Where there is no room it says false and changes nothing.
-    pub fn push(&mut self, entry: T) -> bool
-        ensures pushed { result ≡ nat_lt self.old.height (room self.old) }
-        ensures held { held self.new ≡ (if result then entry ∷ held self.old else held self.old) }
-        ensures height { self.new.height ≡ (if result then self.old.height + 1 else self.old.height) }
+    // Puts an entry on top. Where there is no room it gives the entry back and changes nothing.
+    pub fn push(&mut self, entry: T) -> Result<(), T>
+        ensures pushed { result ≡ pushed (nat_lt self.old.height (room self.old)) entry }
+        ensures held { held self.new ≡ (if nat_lt self.old.height (room self.old) then entry ∷ held self.old else held self.old) }
+        ensures height { self.new.height ≡ (if nat_lt self.old.height (room self.old) then self.old.height + 1 else self.old.height) }
         ensures room { room self.new ≡ room self.old }
     {
         if self.height == self.places.len() {
-            return false;
+            return Err(entry);
         }
         self.put(entry);
-        true
+        Ok(())
     }
 
     // Takes the latest entry off, if there is one.
@@ -44,22 +46,6 @@ impl<'a, T: Copy> Stack<'a, T> {
             return None;
         }
         Some(self.take())
-    }
-
-    fn empty(places: &'a mut [T]) -> Stack<'a, T>
-        ensures held { held result ≡ [] }
-        ensures height { result.height ≡ 0 }
-        ensures room { room result ≡ length places.old }
-    {
-        Stack { places, height: 0 }
-    }
-
-    // The number of taken places is that of the entries.
-    fn taken(&self) -> usize
-        ensures height { result ≡ self.now.height }
-        ensures held { result ≡ length (held self.now) }
-    {
-        self.height
     }
 
     fn put(&mut self, entry: T)
