@@ -50,10 +50,8 @@ mod tests {
     }
 
     fn blocks_of(length: u64, need: u64, price: i64) -> Option<i64> {
-        match Block::new(length) {
-            Ok(t) => Some(t.charge(need, price)),
-            Err(_) => None,
-        }
+        let tariff = Block::try_from(length).ok()?;
+        Some(tariff.charge(need, price))
     }
 
     #[test]

@@ -8,17 +8,21 @@ use crate::ranges::{units_at, within_ranges};
 use crate::tariff::Tariff;
 use refusal::Refusal;
 
-impl Block {
-    // The tariff of this block length, unless it is outside 1 to 1,000.
-    pub fn new(length: u64) -> Result<Block, Refusal>
-        ensures { MatchResult result (λ b. (b.length ≡ length) × (1 ≤ length) × (length ≤ 1000)) (λ e. (e ≡ BlockRange) × (1 ≤ length → length ≤ 1000 → ⊥)) }
-    {
+// The tariff of this block length, unless it is outside 1 to 1,000.
+impl TryFrom<u64> for Block {
+    type Error = Refusal;
+
+    ghost try_from_gives = { λ length r. MatchResult r (λ b. (b.length ≡ length) × (1 ≤ length) × (length ≤ 1000)) (λ e. (e ≡ BlockRange) × (1 ≤ length → length ≤ 1000 → ⊥)) };
+
+    fn try_from(length: u64) -> Result<Block, Refusal> {
         if length < 1 || length > 1000 {
             return Err(Refusal::BlockRange);
         }
         Ok(Block { length })
     }
+}
 
+impl Block {
     pub fn length(&self) -> u64
         ensures { result ≡ self.now.length }
     {
@@ -48,6 +52,7 @@ impl Tariff for Block {
 }
 
 // How many blocks a need begins.
+#[tactic(auto, using(crate::specs::Tariffs::blocks_few))]
 fn begun(length: u64, need: u64) -> u64
     requires some { 1 ≤ length }
     requires short { length ≤ 1000 }
