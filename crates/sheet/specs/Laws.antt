@@ -13,7 +13,7 @@ OtherRows row s t = (i : ℕ) → (i ≢ row) → case_in t i ≡ case_in s i
 
 -- each slot but this one has the price it had
 abbrev pub OtherSlots : ℕ → Contents → Contents → Type 0
-OtherSlots slot s t = (i : ℕ) → (i ≡ slot → ⊥) → price_in t i ≡ price_in s i
+OtherSlots slot s t = (i : ℕ) → (i ≢ slot) → price_in t i ≡ price_in s i
 
 abbrev pub SameRows : Contents → Contents → Type 0
 SameRows s t = (i : ℕ) → case_in t i ≡ case_in s i

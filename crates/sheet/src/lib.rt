@@ -46,20 +46,14 @@ impl Sheet {
     pub fn case(&self, row: usize) -> Option<Case>
         ensures { option_map entry result ≡ case_in (contents self.now) row }
     {
-        if row >= 16 {
-            return None;
-        }
-        self.rows[row]
+        *self.rows.get(row)?
     }
 
     // The price of a slot, or nothing where it is closed or above 63.
     pub fn price_of(&self, slot: usize) -> Option<SlotPrice>
         ensures { option_map amount result ≡ price_in (contents self.now) slot }
     {
-        if slot >= 64 {
-            return None;
-        }
-        self.slots[slot]
+        *self.slots.get(slot)?
     }
 
     // The rows of the table, for whoever goes through all of them.
@@ -79,22 +73,14 @@ impl Sheet {
     pub fn open_slots(&self) -> SlotSet
         ensures { (slot : ℕ) → has result.word slot ≡ is_open (contents self.now) slot }
     {
-        let mut open = SlotSet::from_word(0);
-        for slot in 0..64 {
-            if self.price_of(slot).is_some() {
-                open = open.with(slot);
-            }
-        }
-        open
+        SlotSet::from(u64::MAX).filter(|slot| self.price_of(slot).is_some())
     }
 
     // The usable set of the case in a row: its allowed set without the closed slots. It may be empty.
     pub fn usable(&self, row: usize) -> Option<SlotSet>
         ensures { UsableSet (contents self.now) (case_in (contents self.now) row) result }
     {
-        let Some(case) = self.case(row) else {
-            return None;
-        };
+        let case = self.case(row)?;
         Some(case.allowed().intersection(self.open_slots()))
     }
 
@@ -140,7 +126,10 @@ impl Sheet {
         if row > 15 {
             return Err(Refusal::RowRange);
         }
-        allow_in(&mut self.rows[row], allowed)
+        let Some(case) = &mut self.rows[row] else {
+            return Err(Refusal::RowEmpty);
+        };
+        case.allow(allowed)
     }
 
     // Opens a slot, or changes its price.
@@ -152,7 +141,7 @@ impl Sheet {
         if slot > 63 {
             return Err(Refusal::SlotRange);
         }
-        let price = SlotPrice::new(price)?;
+        let price = SlotPrice::try_from(price)?;
         self.put_price(slot, Some(price));
         Ok(())
     }
@@ -247,18 +236,4 @@ impl Sheet {
     {
         self.slots[slot] = price;
     }
-}
-
-// Replaces the allowed set of the case in one row of the table, which is lent.
-fn allow_in(row: &mut Option<Case>, allowed: u64) -> Result<(), Refusal>
-    ensures said { result ≡ answer (check (not (is_some row.old)) RowEmpty (slots_refusal allowed)) }
-    ensures left { MatchResult result (λ _. option_map entry row.new ≡ allowing allowed (option_map entry row.old)) (λ _. row.new ≡ row.old) }
-{
-    let Some(case) = *row else {
-        return Err(Refusal::RowEmpty);
-    };
-    let mut case = case;
-    case.allow(allowed)?;
-    *row = Some(case);
-    Ok(())
 }

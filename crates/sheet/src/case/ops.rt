@@ -20,7 +20,7 @@ impl Case {
         }
         Ok(Case {
             need: need as u32,
-            allowed: SlotSet::from_word(allowed),
+            allowed: SlotSet::from(allowed),
         })
     }
 
@@ -46,7 +46,7 @@ impl Case {
         }
         *self = Case {
             need: self.need,
-            allowed: SlotSet::from_word(allowed),
+            allowed: SlotSet::from(allowed),
         };
         Ok(())
     }
