@@ -6,7 +6,8 @@ use Rattle.planning.specs.Lists.{In, Ordered}
 use Rattle.slot_set.specs.Sets.{every_slot, has}
 use Rattle.planning.specs.Plans.{Absent, Before, Drawn, choices, used}
 use Rattle.planning.proofs.Lists.{all_in, all_kept, ordered_kept}
-use Rattle.planning.proofs.Slots.{below_every, every_rises, in_slots, kept_twice}
+use Rattle.slot_set.proofs.Keeps.{kept_twice}
+use Rattle.planning.proofs.Slots.{below_every, every_rises, in_slots}
 
 -- a slot that may be chosen next
 abbrev pub open_slot : List ℕ → ℕ → ℕ → Bool

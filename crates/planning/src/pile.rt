@@ -19,9 +19,7 @@ impl<P: Pruner, Q: Pruner> Pruner for Pile<P, Q> {
     ghost lawful = { λ p. piles_lawful (P.Pruner.prunes p.first) (Q.Pruner.prunes p.second) (P.Pruner.lawful p.first) (Q.Pruner.lawful p.second) };
 
     fn prune<T: Tariff>(&self, tariff: &T, ceiling: i64, work: &WorkingSheet) -> Option<[u64; 16]> {
-        let Some(next) = self.first.prune(tariff, ceiling, work) else {
-            return None;
-        };
+        let next = self.first.prune(tariff, ceiling, work)?;
         let inner = work.with_sets(next);
         self.second.prune(tariff, ceiling, &inner)
     }

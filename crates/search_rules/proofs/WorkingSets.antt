@@ -5,7 +5,7 @@ use Rattle.slot_set.specs.Sets.{every_slot, has}
 use Rattle.slot_set.proofs.Words.{has_pow}
 use Rattle.planning.specs.Plans.{Drawn, choices, used}
 use Rattle.planning.specs.Pruners.{Part, Parts}
-use Rattle.planning.proofs.Slots.{kept_twice}
+use Rattle.slot_set.proofs.Keeps.{kept_twice}
 use Rattle.planning.specs.Parts.{parts_refl, parts_trans}
 use Rattle.planning.proofs.Below.{Below, open_slot}
 

@@ -21,6 +21,27 @@ impl WorkingSheet {
         without_cases(sheet).with_rows(sheet.rows())
     }
 
+    // The rows of the standing cases.
+    pub fn rows(&self) -> &[usize]
+        ensures { result.now ≡ take self.now.count self.now.rows }
+    {
+        &self.rows[..self.count]
+    }
+
+    // Their needs.
+    pub fn needs(&self) -> &[u64]
+        ensures { result.now ≡ take self.now.count self.now.needs }
+    {
+        &self.needs[..self.count]
+    }
+
+    // Their working sets.
+    pub fn sets(&self) -> &[u64]
+        ensures { result.now ≡ sets_in self.now }
+    {
+        &self.sets[..self.count]
+    }
+
     // One working set narrowed to a part of it: to what it has in common with a word. The others stay.
     pub fn narrowed(self, case: usize, word: u64) -> WorkingSheet
         ensures sets { result.sets ≡ slice_set self.sets case (bit_and (slice_index self.sets case) word) }
@@ -79,8 +100,8 @@ impl WorkingSheet {
         ensures opened { result.opened ≡ self.opened }
     {
         let mut work = self;
-        for row in 0..16 {
-            work = work.with_row(row, rows[row]);
+        for (row, case) in rows.iter().enumerate() {
+            work = work.with_row(row, *case);
         }
         work
     }
@@ -121,7 +142,7 @@ impl WorkingSheet {
         } = self;
         rows[count] = row;
         needs[count] = case.need();
-        sets[count] = case.allowed().word() & opened;
+        sets[count] = u64::from(case.allowed()) & opened;
         WorkingSheet {
             count: count + 1,
             rows,
@@ -149,7 +170,7 @@ fn without_cases(sheet: &Sheet) -> WorkingSheet
     ensures opened { (slot : ℕ) → has result.opened slot ≡ is_open (contents sheet.now) slot }
 {
     let prices = prices_in(sheet.slots());
-    let opened = sheet.open_slots().word();
+    let opened = sheet.open_slots().into();
     WorkingSheet {
         count: 0,
         rows: [0; 16],
@@ -164,19 +185,11 @@ fn without_cases(sheet: &Sheet) -> WorkingSheet
 fn prices_in(slots: &[Option<SlotPrice>; 64]) -> [i64; 64]
     ensures { result ≡ map (λ o. unwrap_or (option_map amount o) (pos 0)) slots.now }
 {
-    let mut prices = [0; 64];
-    for i in 0..64 {
-        let slot = slots[i];
-        prices[i] = price_or_zero(slot);
-    }
-    prices
+    slots.map(price_or_zero)
 }
 
 fn price_or_zero(slot: Option<SlotPrice>) -> i64
     ensures { result ≡ unwrap_or (option_map amount slot) (pos 0) }
 {
-    match slot {
-        Some(price) => price.amount(),
-        None => 0,
-    }
+    slot.map_or(0, |price| price.amount())
 }

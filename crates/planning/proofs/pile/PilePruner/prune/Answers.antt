@@ -8,4 +8,4 @@ with_sets-inner-requires g c =
     let w = c.args.work.now in
     let points = points_kept w (g.T.Tariff.charges c.args.tariff.now) g.T.Tariff.greatest (g.met.T.Tariff.lawful c.args.tariff.now)
     (g.P.Pruner.prunes c.args.self.now.first) (g.met.P.Pruner.lawful c.args.self.now.first) (to_z w64 (of_z w64 c.args.ceiling)) c.prune.result c.prune.ensures.meaning in
-    open_parts w.opened w.count c.in-Some.next w.sets w.usable (points.part c.in-Some.next c.in-Some.is) c.in-Some.ensures.rest
+    open_parts w.opened w.count c.in_ok-next.next w.sets w.usable (points.part c.in_ok-next.next c.in_ok-next.was) c.in_ok-next.ensures.rest

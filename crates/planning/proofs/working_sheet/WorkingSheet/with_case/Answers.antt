@@ -3,7 +3,7 @@ use lib.Bits.{bit_and, and_le_l}
 use Rattle.std.proofs.lemmas.List.{length-set, take_more_set}
 use Rattle.slot_set.specs.Sets.{has, keep}
 use Rattle.slot_set.proofs.Words.{has_and}
-use Rattle.planning.proofs.Slots.{is_keep}
+use Rattle.slot_set.proofs.Keeps.{is_keep}
 use Rattle.planning.proofs.WorkingTables.{open_set, needed_more, and_right}
 use Rattle.planning.proofs.working_sheet.WorkingSheet.with_case.Goals as goal
 
@@ -15,24 +15,24 @@ invariant_of-result c =
     let some : (1 ≤ c.need.result) × (c.need.result ≤ 20000) = (omega (arith, c.need.ensures), omega (arith, c.need.ensures)) in
     record {
       places = length-set w.needs w.count c.need.result ∙ w.places;
-      sized = length-set w.sets w.count (bit_and c.word.result w.opened) ∙ w.sized;
+      sized = length-set w.sets w.count (bit_and c.from.result w.opened) ∙ w.sized;
       few = omega arith;
       needed = needed_more w.count c.need.result w.needs (omega arith) w.needed some;
       priced = w.priced;
-      usable = open_set w.opened w.count (bit_and c.word.result w.opened) w.sets w.usable (and_right c.word.result w.opened);
+      usable = open_set w.opened w.count (bit_and c.from.result w.opened) w.sets w.usable (and_right c.from.result w.opened);
     }
 
 pub returns : goal.returns
 returns c =
     let w = c.args.self in
-    let small : bit_and c.word.result w.opened < 2 ^ 64 = omega (arith, and_le_l c.word.result w.opened) in
+    let small : bit_and c.from.result w.opened < 2 ^ 64 = omega (arith, and_le_l c.from.result w.opened) in
     record {
       count = refl;
       rows = take_more_set w.rows w.count c.args.row (omega arith);
       needs = take_more_set w.needs w.count c.need.result (omega arith) ∙ ap (λ x. take w.count w.needs ++ (x ∷ [])) c.need.ensures;
-      sets = take_more_set w.sets w.count (bit_and c.word.result w.opened) (omega arith)
-          ∙ ap (λ x. take w.count w.sets ++ (x ∷ [])) (is_keep (has w.opened) c.word.result (bit_and c.word.result w.opened) small (λ s l. has_and c.word.result w.opened s))
-          ∙ ap (λ x. take w.count w.sets ++ (keep (has w.opened) x ∷ [])) (c.word.ensures ∙ c.allowed.ensures);
+      sets = take_more_set w.sets w.count (bit_and c.from.result w.opened) (omega arith)
+          ∙ ap (λ x. take w.count w.sets ++ (x ∷ [])) (is_keep (has w.opened) c.from.result (bit_and c.from.result w.opened) small (λ s l. has_and c.from.result w.opened s))
+          ∙ ap (λ x. take w.count w.sets ++ (keep (has w.opened) x ∷ [])) (c.from.ensures ∙ c.allowed.ensures);
       prices = refl;
       opened = refl;
     }

@@ -15,12 +15,12 @@ invariant_of-result c =
       few = omega arith;
       needed = λ i l. absurd (omega arith);
       priced = λ s t. priced s;
-      usable = open_none c.word-opened.result 16;
+      usable = open_none c.into-opened.result 16;
     }
 
 pub returns : goal.returns
 returns c = record {
   count = refl;
   prices = c.prices_in-prices.ensures ∙ sym (map-map (λ o. unwrap_or o (pos 0)) (option_map amount) c.slots.result.now) ∙ ap (map (λ o. unwrap_or o (pos 0))) c.slots.ensures;
-  opened = λ slot. ap (λ x. has x slot) c.word-opened.ensures ∙ c.open_slots.ensures slot;
+  opened = λ slot. ap (λ x. has x slot) c.into-opened.ensures ∙ c.open_slots.ensures slot;
 }

@@ -1,7 +1,0 @@
-use Rattle.std.proofs.Common.{◌≡◌, map, length, take, pos, unwrap_or}
-use Rattle.std.specs.Option.{option_map}
-use Rattle.sheet.specs.Contents.{amount}
-use Rattle.planning.proofs.working_sheet.ops.prices_in.Given as goal
-
-abbrev pub invariant-loop-i : goal.invariant-loop-i
-invariant-loop-i l = (length l.prices ≡ 64) × (take l.i l.prices ≡ map (λ o. unwrap_or (option_map amount o) (pos 0)) (take l.i l.slots))
