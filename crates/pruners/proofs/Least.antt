@@ -1,82 +1,65 @@
--- The least charge over a set, slot by slot from the last. Assumes nothing.
-use Rattle.std.proofs.Common.{◌≡◌, ℕ, zero, suc, ◌-◌, ◌<◌, ◌≤◌, Bool, true, false, cond, List, [], ◌∷◌, get_or, ℤ, pos, filter, sym, refl, ap, ◌∙◌, arith}
+-- The least charge over a set. Assumes nothing.
+use Rattle.std.specs.List.{fold, reduce, range_with_len}
+use Rattle.std.specs.Cmp.{int_ranks}
+use Rattle.std.specs.Ordering.{MatchOrdering, int_cmp, min_by_ordering}
+use Rattle.std.specs.declared.cmp.Ordering.{Ordering}
+use Rattle.std.specs.declared.cmp.Ordering.TheVariants.{Less, Equal, Greater}
+use Rattle.std.proofs.Common.{◌≡◌, ℕ, zero, suc, cond, List, [], ◌∷◌, ℤ, pos, ◌<ℤ◌, Option, unwrap_or, map, filter, refl, ap, ◌∙◌, add-one, arith}
 use lib.Signed.{le_z}
 use Rattle.std.proofs.lemmas.Int.{ints}
-use Rattle.std.proofs.lemmas.Bool.{cond_both, cond-false, cond-true}
+use Rattle.std.proofs.lemmas.Bool.{cond_both}
 use Rattle.slot_set.specs.Sets.{every_slot, from, has, members}
 use Rattle.tariff.specs.Charges.{Charge, LawfulTariff, Within}
 use Rattle.tariff.proofs.Sums.{charge_within, within_more}
 use Rattle.pruners.specs.Sum.{least}
 
--- the slots of a set from s on. Shut, since a test of 64 slots computes long
-unfoldable pub members_from : ℕ → ℕ → List ℕ
-members_from word s = filter (has word) (from s (64 - s))
+-- ---- the least of some charges, one after the other
 
-abbrev pub any : List ℕ → Bool
-any [] = false
-any (x ∷ xs) = true
+-- the lesser of two charges, as `min` picks it
+abbrev pub lesser : ℤ → ℤ → ℤ
+lesser x y = min_by_ordering (int_cmp x y) x y
 
-from_none : (word : ℕ) → members_from word 64 ≡ []
-unfolding members_from
-from_none word = refl
+lesser_by : (o : Ordering) (x y : ℤ) → MatchOrdering o (x <ℤ y) (x ≡ y) (y <ℤ x) → min_by_ordering o x y ≡ cond (le_z x y) x y
+lesser_by Less x y h = grind (arith, ints)
+lesser_by Equal x y h = grind (arith, ints)
+lesser_by Greater x y h = grind (arith, ints)
 
-pub from_all : (word s : ℕ) → s ≡ 0 → members_from word s ≡ members word
-unfolding members_from every_slot
-from_all word s e = ap (λ k. filter (has word) (from k (64 - k))) e
+lesser_is : (x y : ℤ) → lesser x y ≡ cond (le_z x y) x y
+lesser_is x y = lesser_by (int_cmp x y) x y (int_ranks x y)
 
--- the step down from s to s - 1
-from_down : (word s : ℕ) → 0 < s → s ≤ 64
-    → members_from word (s - 1) ≡ cond (has word (s - 1)) ((s - 1) ∷ members_from word s) (members_from word s)
-unfolding members_from
-from_down word zero h l = absurd (omega arith)
-from_down word (suc s) h l =
-    let one : suc s - 1 ≡ s = omega arith in
-    let more : 64 - s ≡ suc (64 - suc s) = omega arith in
-    ap (λ k. filter (has word) (from k (64 - k))) one
-    ∙ ap (λ k. filter (has word) (from s k)) more
-    ∙ ap (λ k. cond (has word k) (k ∷ filter (has word) (from (suc s) (64 - suc s))) (filter (has word) (from (suc s) (64 - suc s)))) (sym one)
+lesser_assoc : (x y z : ℤ) → cond (le_z (cond (le_z x y) x y) z) (cond (le_z x y) x y) z ≡ cond (le_z x (cond (le_z y z) y z)) x (cond (le_z y z) y z)
+lesser_assoc x y z = grind (arith, ints)
 
-least_more : (w : ℕ → ℤ) (s : ℕ) (xs : List ℕ) → least w (s ∷ xs) ≡ cond (any xs) (cond (le_z (w s) (least w xs)) (w s) (least w xs)) (w s)
-least_more w s [] = refl
-least_more w s (x ∷ xs) = refl
+fold_least : (w : ℕ → ℤ) (x : ℤ) (s : ℕ) (ss : List ℕ) → fold lesser x (map w (s ∷ ss)) ≡ cond (le_z x (least w (s ∷ ss))) x (least w (s ∷ ss))
+fold_least w x s [] = lesser_is x (w s)
+fold_least w x s (t ∷ ts) =
+    fold_least w (lesser x (w s)) t ts
+    ∙ ap (λ y. cond (le_z y (least w (t ∷ ts))) y (least w (t ∷ ts))) (lesser_is x (w s))
+    ∙ lesser_assoc x (w s) (least w (t ∷ ts))
 
--- whether there is a slot from s on, and the least charge over these
-abbrev pub LeastFrom : (ℕ → ℤ) → ℕ → ℕ → Bool → ℤ → Type 0
-LeastFrom w word s found m = (found ≡ any (members_from word s)) × (m ≡ least w (members_from word s))
+least_reduced : (w : ℕ → ℤ) (ss : List ℕ) → unwrap_or (reduce lesser (map w ss)) (pos 0) ≡ least w ss
+least_reduced w [] = refl
+least_reduced w (s ∷ []) = refl
+least_reduced w (s ∷ (t ∷ ts)) = fold_least w (w s) t ts
 
-pub least_none : (w : ℕ → ℤ) (word : ℕ) → LeastFrom w word 64 false (pos 0)
-least_none w word = (sym (ap any (from_none word)), sym (ap (least w) (from_none word)))
+from_range : (s n : ℕ) → range_with_len s n ≡ from s n
+from_range s zero = refl
+from_range s (suc n) = ap (λ t. s ∷ range_with_len t n) (add-one s) ∙ ap (λ ss. s ∷ ss) (from_range (suc s) n)
 
-pub least_in_set : (w : ℕ → ℤ) (word s : ℕ) (found : Bool) (x m z r : ℤ) → z ≡ cond found (cond (le_z x m) x m) x → r ≡ z → x ≡ w (s - 1)
-    → 0 < s → s ≤ 64 → has word (s - 1) ≡ true → LeastFrom w word s found m → LeastFrom w word (s - 1) true r
-least_in_set w word s found x m z r e v q h l t (f, k) =
-    let down : members_from word (s - 1) ≡ (s - 1) ∷ members_from word s = from_down word s h l ∙ cond-true (has word (s - 1)) ((s - 1) ∷ members_from word s) (members_from word s) t in (
-      sym (ap any down),
-      v
-          ∙ e
-          ∙ ap (λ b. cond b (cond (le_z x m) x m) x) f
-          ∙ ap (λ y. cond (any (members_from word s)) (cond (le_z x y) x y) x) k
-          ∙ ap (λ y. cond (any (members_from word s)) (cond (le_z y (least w (members_from word s))) y (least w (members_from word s))) y) q
-          ∙ sym (least_more w (s - 1) (members_from word s))
-          ∙ sym (ap (least w) down),
-    )
+members_range : (word n : ℕ) → n ≡ 64 → filter (has word) (range_with_len 0 n) ≡ members word
+unfolding every_slot
+members_range word n e = ap (filter (has word)) (ap (range_with_len 0) e ∙ from_range 0 64)
 
-pub least_not_in_set : (w : ℕ → ℤ) (word s : ℕ) (found : Bool) (m : ℤ)
-    → 0 < s → s ≤ 64 → has word (s - 1) ≡ false → LeastFrom w word s found m → LeastFrom w word (s - 1) found m
-least_not_in_set w word s found m h l t (f, k) =
-    let down : members_from word (s - 1) ≡ members_from word s = from_down word s h l ∙ cond-false (has word (s - 1)) ((s - 1) ∷ members_from word s) (members_from word s) t in
-    (f ∙ sym (ap any down), k ∙ sym (ap (least w) down))
+-- of the charges w in the slots of a set
+pub least_in_set : (w : ℕ → ℤ) (word n : ℕ) (r : Option ℤ) → n ≡ 64 → r ≡ reduce lesser (map w (filter (has word) (range_with_len 0 n))) → unwrap_or r (pos 0) ≡ least w (members word)
+least_in_set w word n r e h = ap (λ o. unwrap_or o (pos 0)) h ∙ least_reduced w (filter (has word) (range_with_len 0 n)) ∙ ap (least w) (members_range word n e)
 
 -- ---- every charge, and so every least charge, is small
 
-least_within : (m : ℕ) (w : ℕ → ℤ) → ((s : ℕ) → Within m (w s)) → (xs : List ℕ) → Within m (least w xs)
+pub least_within : (m : ℕ) (w : ℕ → ℤ) → ((s : ℕ) → Within m (w s)) → (xs : List ℕ) → Within m (least w xs)
 least_within m w h [] = record { low = omega (arith, ints); high = omega (arith, ints) }
 least_within m w h (x ∷ []) = h x
 least_within m w h (x ∷ (y ∷ ys)) = cond_both (le_z (w x) (least w (y ∷ ys))) (w x) (least w (y ∷ ys)) (Within m) (λ _. h x) (λ _. least_within m w h (y ∷ ys))
 
-module _ (w : Charge) (greatest : ℕ) (law : LawfulTariff w greatest) where
-  pub charge_small : (a : ℕ) (p : ℤ) → Within 1000000000000 (w a p)
-  charge_small a p = within_more greatest 1000000000000 (w a p) law.small (charge_within w greatest law a p)
-
-  pub least_small : (a : ℕ) (ps : List ℤ) (xs : List ℕ) → Within 1000000000000 (least (λ s. w a (get_or ps s (pos 0))) xs)
-  least_small a ps xs = least_within 1000000000000 (λ s. w a (get_or ps s (pos 0))) (λ s. charge_small a (get_or ps s (pos 0))) xs
+pub charge_small : (w : Charge) (greatest : ℕ) → LawfulTariff w greatest → (a : ℕ) (p : ℤ) → Within 1000000000000 (w a p)
+charge_small w greatest law a p = within_more greatest 1000000000000 (w a p) law.small (charge_within w greatest law a p)

@@ -7,7 +7,8 @@ use Rattle.slot_set.specs.Sets.{has, single, some_empty}
 use Rattle.planning.specs.Plans.{Absent, Drawn, Given}
 use Rattle.planning.specs.Pruners.{Lawful, Parts, Points, Proper}
 use Rattle.pruners.specs.Distinct.{claimed, distinct, unclaimed}
-use Rattle.planning.proofs.Slots.{drawn_full, keep_has, keep_part, single_one}
+use Rattle.slot_set.proofs.Keeps.{keep_has, keep_part}
+use Rattle.planning.proofs.Slots.{drawn_full, single_one}
 use Rattle.planning.specs.Verdicts.{none_not, some_is}
 use Rattle.planning.specs.Parts.{lawful_from}
 

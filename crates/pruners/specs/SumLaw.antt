@@ -10,7 +10,8 @@ use Rattle.planning.specs.Plans.{Drawn, Given, at_slot, sum_of}
 use Rattle.planning.specs.Pruners.{Lawful, Parts, Points, Proper}
 use Rattle.pruners.specs.Sum.{least, least_in, leasts, sum, sum_strike}
 use Rattle.tariff.specs.Orders.{int_le_true, int_lt_false, ≤ℤ_trans}
-use Rattle.planning.proofs.Slots.{drawn_full, in_slots, keep_has, keep_part}
+use Rattle.slot_set.proofs.Keeps.{keep_has, keep_part}
+use Rattle.planning.proofs.Slots.{drawn_full, in_slots}
 use Rattle.planning.specs.Verdicts.{none_not, some_is}
 use Rattle.planning.specs.Parts.{lawful_from}
 

@@ -1,10 +1,10 @@
-ghost use Rattle.std.specs.Prelude.{◌≡◌, ℕ, ◌<◌, ◌≤◌, not, ◌&&◌, [], take, drop, slice_index, slice_set};
-ghost use Rattle.slot_set.specs.Sets.{has, single};
+ghost use Rattle.std.specs.Prelude.{◌≡◌, ℕ, ◌<◌, [], length, slice_index};
+ghost use Rattle.slot_set.specs.Sets.{has};
 ghost use Rattle.pruners.specs.Distinct.{claimed, unclaimed, distinct};
 ghost use Rattle.pruners.specs.DistinctLaw.{distinct_lawful};
 
-use crate::sets::any_empty;
 use planning::{Pruner, WorkingSheet};
+use slot_set::{SlotSet, any_empty};
 use tariff::Tariff;
 
 // Distinct: a slot that is the only one of a case is struck from every other set, all judged by the sets as given.
@@ -17,70 +17,46 @@ impl Pruner for Distinct {
     ghost lawful = { λ p. distinct_lawful };
 
     fn prune<T: Tariff>(&self, tariff: &T, ceiling: i64, work: &WorkingSheet) -> Option<[u64; 16]> {
-        let sets = work.sets;
-        let next = unclaimed_sets(&sets, work.count);
-        if any_empty(&next, work.count) {
+        let mut next = work.sets;
+        strike_claimed(&mut next[..work.count], work.sets());
+        if any_empty(&next[..work.count]) {
             return None;
         }
         Some(next)
     }
 }
 
-// Each set without the slots that are the only one of another. They are read from `sets`, so that no strike
+// Strikes from each set the slots that are the only one of another. They are read from `sets`, so that no strike
 // makes a set of one slot that then strikes again.
-fn unclaimed_sets(sets: &[u64; 16], count: usize) -> [u64; 16]
-    requires { count ≤ 16 }
-    ensures struck { take count result ≡ unclaimed [] (take count sets.now) }
-    ensures rest { drop count result ≡ drop count sets.now }
+#[tactic(auto, using(crate::proofs::Striking::length_unclaimed, std::proofs::lemmas::List::take_all, std::proofs::lemmas::List::take_more, std::proofs::lemmas::List::take_more_set))]
+fn strike_claimed(next: &mut [u64], sets: &[u64])
+    requires { length next.old ≡ length sets.now }
+    ensures { next.new ≡ unclaimed [] sets.now }
 {
-    let mut next = *sets;
-    for i in 0..count {
-        strike_case(&mut next, sets, count, i);
+    for (case, set) in next.iter_mut().enumerate() {
+        *set = struck(sets, case);
     }
-    next
 }
 
-// Writes one of these sets, judged by the sets as given and not by those already written.
-fn strike_case(next: &mut [u64; 16], sets: &[u64; 16], count: usize, case: usize)
-    requires { (case < count) × (count ≤ 16) }
-    ensures { next.new ≡ slice_set next.old case (slice_index (unclaimed [] (take count sets.now)) case) }
+// What is left of one set.
+fn struck(sets: &[u64], case: usize) -> u64
+    requires { case < length sets.now }
+    ensures { result ≡ slice_index (unclaimed [] sets.now) case }
 {
-    next[case] = struck(sets, count, case);
+    let others = claims(&sets[..case]).union(claims(&sets[case + 1..]));
+    SlotSet::from(sets[case]).difference(others).into()
 }
 
-// One of these sets.
-fn struck(sets: &[u64; 16], count: usize, case: usize) -> u64
-    requires { (case < count) × (count ≤ 16) }
-    ensures { result ≡ slice_index (unclaimed [] (take count sets.now)) case }
+// The slots that are the only one of a case.
+#[tactic(auto, using(crate::proofs::Striking::claimed_by, crate::proofs::Striking::claimed_not, slot_set::proofs::Words::has_none))]
+fn claims(sets: &[u64]) -> SlotSet
+    ensures { (s : ℕ) → has result.word s ≡ claimed s sets.now }
 {
-    let before = claims(sets, 0, case);
-    let after = claims(sets, case + 1, count);
-    without(sets[case], before | after)
-}
-
-// The slots that are the only one of a case from `start` up to `end`.
-fn claims(sets: &[u64; 16], start: usize, end: usize) -> u64
-    requires { (start ≤ end) × (end ≤ 16) }
-    ensures { (s : ℕ) → has result s ≡ claimed s (drop start (take end sets.now)) }
-{
-    let mut word = 0;
-    for j in start..end {
-        if is_single(sets[j]) {
-            word |= sets[j];
+    let mut claimed = SlotSet::default();
+    for set in sets {
+        if let Some(slot) = SlotSet::from(*set).only() {
+            claimed = claimed.with(slot);
         }
     }
-    word
-}
-
-fn is_single(word: u64) -> bool
-    ensures { result ≡ single word }
-{
-    word.count_ones() == 1
-}
-
-// The slots of `word` that `other` lacks.
-fn without(word: u64, other: u64) -> u64
-    ensures { (s : ℕ) → has result s ≡ (has word s && not (has other s)) }
-{
-    word & !other
+    claimed
 }

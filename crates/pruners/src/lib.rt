@@ -2,7 +2,6 @@
 #![tactic(auto)]
 
 mod distinct;
-mod sets;
 mod sum;
 #[cfg(test)]
 mod tests;

@@ -1,14 +1,13 @@
-ghost use Rattle.std.specs.Prelude.{◌≡◌, ℕ, ◌<◌, ◌≤◌, take, drop, pos, ◌+ℤ◌, if◌then◌else◌, int_le, slice_index_or};
-ghost use Rattle.slot_set.specs.Sets.{has, keep, members};
+ghost use Rattle.std.specs.Prelude.{◌≡◌, ℕ, ◌<◌, ◌≤◌, length, take, drop, ℤ, pos, ◌+ℤ◌, int_le, slice_index, slice_index_or};
+ghost use Rattle.slot_set.specs.Sets.{keep};
 ghost use Rattle.tariff.specs.Charges.{Within};
 ghost use Rattle.tariff.specs.Sums.{sum_all};
 ghost use Rattle.planning.specs.Working.{given, sets_in, first_sets, RestKept};
-ghost use Rattle.pruners.specs.Sum.{least, sum_strike, sum, LeastEach};
+ghost use Rattle.pruners.specs.Sum.{least_in, sum_strike, sum, LeastEach};
 ghost use Rattle.pruners.specs.SumLaw.{sum_lawful};
 
-use crate::sets::any_empty;
 use planning::{Pruner, WorkingSheet};
-use slot_set::SlotSet;
+use slot_set::{SlotSet, any_empty};
 use tariff::Tariff;
 
 // Sum: each case at its least charge. A slot is struck if the case in it, with all others at their least, exceeds
@@ -22,148 +21,134 @@ impl Pruner for Sum {
     ghost lawful = { λ p. sum_lawful };
 
     fn prune<T: Tariff>(&self, tariff: &T, ceiling: i64, work: &WorkingSheet) -> Option<[u64; 16]> {
-        sum_sets(tariff, ceiling, work)
+        Charged::new(tariff, work).sum_sets(ceiling)
     }
 }
 
-// What Sum answers.
-fn sum_sets<T: Tariff>(tariff: &T, ceiling: i64, work: &WorkingSheet) -> Option<[u64; 16]>
-    ensures rest { RestKept work.now.count work.now.sets result }
-    ensures meaning { first_sets work.now.count result ≡ sum (given work.now (T.Tariff.charges tariff.now)) ceiling (sets_in work.now) }
-{
-    let sets = work.sets;
-    if any_empty(&sets, work.count) {
-        return None;
-    }
-    let least = leasts_of(tariff, work);
-    let total = total_of(&least, work.count);
-    if ceiling < total {
-        return None;
-    }
-    Some(struck_sets(tariff, ceiling, work, &least, total))
+// What a case may be charged: with the charges of all others, no more than the ceiling.
+#[derive(Clone, Copy)]
+struct Limit {
+    others: i64,
+    ceiling: i64,
+    ghost small: { Within 17000000000000 others },
 }
 
-// The least charge of each case, so that each is worked out once, and 0 in the places past the cases.
-fn leasts_of<T: Tariff>(tariff: &T, work: &WorkingSheet) -> [i64; 16]
-    ensures rest { (i : ℕ) → work.now.count ≤ i → slice_index_or result i (pos 0) ≡ pos 0 }
-    ensures least { LeastEach work.now (T.Tariff.charges tariff.now) result }
-{
-    let mut least = [0; 16];
-    for i in 0..work.count {
-        least[i] = least_charge(tariff, &work.prices, work.needs[i], work.sets[i]);
+impl Limit {
+    fn admits(self, charge: i64) -> bool
+        requires { Within 1000000000000 charge }
+        ensures { result ≡ int_le (self.others +ℤ charge) self.ceiling }
+    {
+        self.others + charge <= self.ceiling
     }
-    least
 }
 
-// The least charge of a need over a set, and 0 over an empty one.
-fn least_charge<T: Tariff>(tariff: &T, prices: &[i64; 64], need: u64, set: u64) -> i64
-    ensures { result ≡ least (λ s. T.Tariff.charges tariff.now need (slice_index_or prices.now s (pos 0))) (members set) }
-{
-    let mut least = 0;
-    let mut found = false;
-    let mut s = 64;
-    while s > 0 {
-        s -= 1;
-        if in_set(set, s) {
-            least = lesser(found, least, charge_at(tariff, prices, need, s));
-            found = true;
+// The cases of a working sheet, as a tariff charges them.
+#[derive(Drop)]
+struct Charged<'a, T: Tariff> {
+    tariff: &'a T,
+    work: &'a WorkingSheet,
+    // no charge lies farther than 10^12 from 0
+    ghost small: { (need : ℕ) (price : ℤ) → Within 1000000000000 (T.Tariff.charges tariff.now need price) },
+}
+
+impl<'a, T: Tariff> Charged<'a, T> {
+    fn new(tariff: &'a T, work: &'a WorkingSheet) -> Charged<'a, T>
+        ensures tariff { result.tariff.now ≡ tariff.now }
+        ensures work { result.work.now ≡ work.now }
+    {
+        Charged { tariff, work }
+    }
+
+    // What Sum answers.
+    #[tactic(auto, using(crate::proofs::Totals::total_least))]
+    fn sum_sets(&self, ceiling: i64) -> Option<[u64; 16]>
+        ensures rest { RestKept self.now.work.now.count self.now.work.now.sets result }
+        ensures meaning { first_sets self.now.work.now.count result ≡ sum (given self.now.work.now (T.Tariff.charges self.now.tariff.now)) ceiling (sets_in self.now.work.now) }
+    {
+        if any_empty(self.work.sets()) {
+            return None;
         }
+        let leasts = self.leasts();
+        let total = total_of(&leasts[..self.work.count]);
+        if ceiling < total {
+            return None;
+        }
+        Some(self.struck_sets(ceiling, &leasts, total))
     }
-    least
-}
 
-// The lesser of a charge and the least so far, if one was found.
-fn lesser(found: bool, least: i64, charge: i64) -> i64
-    ensures { result ≡ (if found then (if int_le charge least then charge else least) else charge) }
-{
-    if found && least < charge {
-        return least;
+    // Each set without the slots that a case cannot afford with all others at their least.
+    fn struck_sets(&self, ceiling: i64, leasts: &[i64; 16], total: i64) -> [u64; 16]
+        requires least { LeastEach self.now.work.now (T.Tariff.charges self.now.tariff.now) leasts.now }
+        requires small { Within 16000000000000 total }
+        ensures struck { let w = self.now.work.now in take w.count result ≡ sum_strike (given w (T.Tariff.charges self.now.tariff.now)) ceiling total (take w.count w.needs) (sets_in w) }
+        ensures rest { drop self.now.work.now.count result ≡ drop self.now.work.now.count self.now.work.now.sets }
+    {
+        let mut next = self.work.sets;
+        for (case, set) in next[..self.work.count].iter_mut().enumerate() {
+            let limit = Limit {
+                others: total - leasts[case],
+                ceiling,
+            };
+            *set = self.affordable(case, limit).into();
+        }
+        next
     }
-    charge
+
+    // The least charge of each case, so that each is worked out once, and 0 in the places past the cases.
+    fn leasts(&self) -> [i64; 16]
+        ensures rest { (i : ℕ) → self.now.work.now.count ≤ i → slice_index_or result i (pos 0) ≡ pos 0 }
+        ensures least { LeastEach self.now.work.now (T.Tariff.charges self.now.tariff.now) result }
+    {
+        let mut leasts = [0; 16];
+        for (case, least) in leasts[..self.work.count].iter_mut().enumerate() {
+            *least = self.least(case);
+        }
+        leasts
+    }
+
+    // The least charge of a case over its set, and 0 over an empty one.
+    fn least(&self, case: usize) -> i64
+        requires { case < 16 }
+        ensures { let w = self.now.work.now in result ≡ least_in (given w (T.Tariff.charges self.now.tariff.now)) (slice_index w.needs case) (slice_index w.sets case) }
+    {
+        let set = SlotSet::from(self.work.sets[case]);
+        (0..64)
+            .filter(|slot| set.contains(*slot))
+            .map(|slot| self.charge(case, slot))
+            .min()
+            .unwrap_or(0)
+    }
+
+    // The slots of a case's set in which its charge is within a limit.
+    fn affordable(&self, case: usize, limit: Limit) -> SlotSet
+        requires { case < 16 }
+        ensures { let w = self.now.work.now in result.word ≡ keep (λ s. int_le (limit.others +ℤ T.Tariff.charges self.now.tariff.now (slice_index w.needs case) (slice_index_or w.prices s (pos 0))) limit.ceiling) (slice_index w.sets case) }
+    {
+        SlotSet::from(self.work.sets[case]).filter(|slot| limit.admits(self.charge(case, slot)))
+    }
+
+    // What a case is charged in a slot.
+    fn charge(&self, case: usize, slot: usize) -> i64
+        requires in_table { case < 16 }
+        requires in_day { slot < 64 }
+        ensures small { Within 1000000000000 result }
+        ensures charge { let w = self.now.work.now in result ≡ T.Tariff.charges self.now.tariff.now (slice_index w.needs case) (slice_index_or w.prices slot (pos 0)) }
+    {
+        self.tariff
+            .charge(self.work.needs[case], self.work.prices[slot])
+    }
 }
 
-fn charge_at<T: Tariff>(tariff: &T, prices: &[i64; 64], need: u64, slot: usize) -> i64
-    requires { slot < 64 }
-    ensures { result ≡ T.Tariff.charges tariff.now need (slice_index_or prices.now slot (pos 0)) }
-{
-    tariff.charge(need, prices[slot])
-}
-
-fn in_set(set: u64, slot: usize) -> bool
-    ensures { result ≡ has set slot }
-{
-    SlotSet::from_word(set).contains(slot)
-}
-
-// The sum of the first `count` of some charges. It is added up from the last, as the sum of a list is defined.
-fn total_of(charges: &[i64; 16], count: usize) -> i64
-    requires few { count ≤ 16 }
-    requires small { (i : ℕ) → i < count → Within 1000000000000 (slice_index_or charges.now i (pos 0)) }
-    ensures sum { result ≡ sum_all (take count charges.now) }
+// The sum of some charges.
+fn total_of(charges: &[i64]) -> i64
+    requires few { length charges.now ≤ 16 }
+    requires small { (i : ℕ) → i < length charges.now → Within 1000000000000 (slice_index_or charges.now i (pos 0)) }
+    ensures sum { result ≡ sum_all charges.now }
     ensures small { Within 16000000000000 result }
 {
     let mut sum = 0;
-    let mut i = count;
-    while i > 0 {
-        i -= 1;
-        sum = charges[i] + sum;
+    for charge in charges {
+        sum += *charge;
     }
     sum
-}
-
-// Each set without the slots that a case cannot afford with all others at their least.
-fn struck_sets<T: Tariff>(
-    tariff: &T,
-    ceiling: i64,
-    work: &WorkingSheet,
-    least: &[i64; 16],
-    total: i64,
-) -> [u64; 16]
-    requires least { LeastEach work.now (T.Tariff.charges tariff.now) least.now }
-    requires small { Within 16000000000000 total }
-    ensures struck { take work.now.count result ≡ sum_strike (given work.now (T.Tariff.charges tariff.now)) ceiling total (take work.now.count work.now.needs) (sets_in work.now) }
-    ensures rest { drop work.now.count result ≡ drop work.now.count work.now.sets }
-{
-    let mut next = work.sets;
-    for i in 0..work.count {
-        let others = total - least[i];
-        next[i] = affordable(
-            tariff,
-            &work.prices,
-            work.needs[i],
-            work.sets[i],
-            others,
-            ceiling,
-        );
-    }
-    next
-}
-
-// The slots of a set whose charge, with that of all other cases, does not exceed the ceiling.
-fn affordable<T: Tariff>(
-    tariff: &T,
-    prices: &[i64; 64],
-    need: u64,
-    set: u64,
-    others: i64,
-    ceiling: i64,
-) -> u64
-    requires { Within 17000000000000 others }
-    ensures { result ≡ keep (λ s. int_le (others +ℤ T.Tariff.charges tariff.now need (slice_index_or prices.now s (pos 0))) ceiling) set }
-{
-    let mut word = 0;
-    for s in 0..64 {
-        if in_set(set, s) && within(others, charge_at(tariff, prices, need, s), ceiling) {
-            word |= 1 << s;
-        }
-    }
-    word
-}
-
-fn within(others: i64, charge: i64, ceiling: i64) -> bool
-    requires others { Within 17000000000000 others }
-    requires charge { Within 1000000000000 charge }
-    ensures { result ≡ int_le (others +ℤ charge) ceiling }
-{
-    others + charge <= ceiling
 }

@@ -8,11 +8,11 @@ use tariff::Plain;
 // A sheet with these cases (need, allowed set) from row 0 on, and these slots (slot, price) open.
 fn board(cases: &[(u64, u64)], prices: &[(usize, i64)]) -> WorkingSheet {
     let mut sheet = Sheet::new();
-    for price in prices {
-        let _ = sheet.price(price.0, price.1);
+    for (slot, price) in prices {
+        let _ = sheet.price(*slot, *price);
     }
-    for (row, case) in cases.iter().enumerate() {
-        let _ = sheet.enter(row, case.0, case.1);
+    for (row, (need, allowed)) in cases.iter().enumerate() {
+        let _ = sheet.enter(row, *need, *allowed);
     }
     WorkingSheet::new(&sheet)
 }
@@ -22,15 +22,7 @@ fn dies<P: Pruner>(pruner: &P, ceiling: i64, work: &WorkingSheet) -> bool {
 }
 
 fn gives<P: Pruner>(pruner: &P, ceiling: i64, work: &WorkingSheet, sets: &[u64]) -> bool {
-    let Some(next) = ask(pruner, &Plain, ceiling, work) else {
-        return false;
-    };
-    for (i, set) in sets.iter().enumerate() {
-        if i >= 16 || next[i] != *set {
-            return false;
-        }
-    }
-    work.count == sets.len()
+    ask(pruner, &Plain, ceiling, work).is_some_and(|next| &next[..work.count] == sets)
 }
 
 #[test]
