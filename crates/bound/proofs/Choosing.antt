@@ -23,26 +23,17 @@ module _ (f : Figures) (i j : ℕ) (w : ℤ) where
   abbrev earlier : ℤ
   earlier = shifted f.fixed f.level f.upper f.cases w j i
 
-  chosen_same : j ≡ i → chosen f i j w ≡ whole f
+  pub chosen_same : j ≡ i → chosen f i j w ≡ whole f
   unfolding chosen
   chosen_same e = cond-true (eqb j i) (whole f) (cond (ltb i j) later earlier) (eq-eqb j i e)
 
-  chosen_later : i < j → chosen f i j w ≡ later
+  pub chosen_later : i < j → chosen f i j w ≡ later
   unfolding chosen
   chosen_later l = cond-false (eqb j i) (whole f) (cond (ltb i j) later earlier) (ne_eqb j i (λ e. omega arith)) ∙ cond-true (ltb i j) later earlier (lt-ltb i j l)
 
-  chosen_earlier : j < i → chosen f i j w ≡ earlier
+  pub chosen_earlier : j < i → chosen f i j w ≡ earlier
   unfolding chosen
   chosen_earlier l = cond-false (eqb j i) (whole f) (cond (ltb i j) later earlier) (ne_eqb j i (λ e. omega arith)) ∙ cond-false (ltb i j) later earlier (le-ltb i j (omega arith))
-
-  pub is_same : (z : ℤ) → j ≡ i → z ≡ whole f → z ≡ chosen f i j w
-  is_same z e q = q ∙ sym (chosen_same e)
-
-  pub is_later : (z v : ℤ) (b : ℕ) → i < j → z ≡ shifted f.fixed f.level f.lower f.cases v i b → v ≡ w → b ≡ cond (ltb j f.cases) j (f.cases - 1) → z ≡ chosen f i j w
-  is_later z v b l q e k = q ∙ ap₂ (λ (y : ℤ) (x : ℕ). shifted f.fixed f.level f.lower f.cases y i x) e k ∙ sym (chosen_later l)
-
-  pub is_earlier : (z v : ℤ) → j < i → z ≡ shifted f.fixed f.level f.upper f.cases v j i → v ≡ w → z ≡ chosen f i j w
-  is_earlier z v l q e = q ∙ ap (λ y. shifted f.fixed f.level f.upper f.cases y j i) e ∙ sym (chosen_earlier l)
 
 pub same_three : (a b c a' b' c' : ℤ) → a ≡ a' → b ≡ b' → c ≡ c' → ((a +ℤ b) +ℤ c) ≡ ((a' +ℤ b') +ℤ c')
 same_three a b c a' b' c' p q r = rw (p, q, r)

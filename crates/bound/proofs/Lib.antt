@@ -3,7 +3,6 @@ pub mod Choosing
 pub mod Counting
 pub mod Filling
 pub mod House
-pub mod Passing
 pub mod Places
 pub mod Strikes
 pub mod Summing

@@ -1,15 +1,15 @@
 -- The sets that Bound leaves, place by place. Assumes nothing.
-use Rattle.std.proofs.Common.{◌≡◌, ℕ, zero, suc, ◌+◌, ◌<◌, ◌≤◌, Bool, true, false, cond, ◌||◌, ltb, List, [], ◌∷◌, length, get_or, drop, ℤ, Some, None, filter, sym, refl, ap, ◌∙◌, ap₂, inl, inr, arith}
+use Rattle.std.proofs.Common.{filter, refl, ap₂, take, not, ◌≡◌, ℕ, zero, suc, ◌+◌, ◌<◌, ◌≤◌, Bool, true, false, cond, ◌||◌, ltb, List, [], ◌∷◌, length, get_or, drop, ℤ, Some, None, sym, ap, ◌∙◌, inl, inr, arith}
 use lib.Signed.{le_z, lt_z}
 use Rattle.std.proofs.lemmas.List.{drop-drop, get_or-drop}
-use Rattle.std.proofs.lemmas.Bool.{cond_both, cond-false, cond-true, le-ltb, lt-ltb, or_from, or_left, or_right}
-use Rattle.std.specs.List.{AllByRecursion}
+use Rattle.std.proofs.lemmas.Bool.{cond_both, cond-false, cond-true, le-ltb, lt-ltb, or_from, or_left, or_right, not-true}
 use Rattle.slot_set.specs.Sets.{has, keep, members, single, some_empty, word_of}
 use Rattle.tariff.specs.Charges.{Charge}
 use Rattle.planning.specs.Lists.{In}
 use Rattle.planning.specs.Plans.{Given, at_slot}
-use Rattle.planning.specs.Working.{given}
+use Rattle.planning.specs.Working.{given, sets_in}
 use Rattle.planning.specs.declared.working_sheet.WorkingSheet.{WorkingSheet}
+use Rattle.std.specs.List.{AllByRecursion}
 use Rattle.planning.proofs.Lists.{all_from_in}
 use Rattle.planning.proofs.Slots.{in_slots}
 use Rattle.bound.specs.declared.figures.Figures.{Figures}
@@ -18,9 +18,11 @@ use Rattle.bound.specs.Figures.{RightFigures, affords, chosen}
 use Rattle.bound.specs.Tables.{row_of, rows_in}
 use Rattle.bound.proofs.Choosing.{chosen_right}
 use Rattle.bound.proofs.Counting.{length_rows, row_get, some_row}
+use Rattle.bound.proofs.Places.{row_rank_below}
 use Rattle.bound.proofs.Filling.{free_case, member_is}
 use Rattle.bound.specs.Sorting.{length_sorted}
 
+-- two tests that agree on each of a list keep the same of it
 kept_same_in : (f h : ℕ → Bool) (xs : List ℕ) → AllByRecursion (λ x. f x ≡ h x) xs → filter f xs ≡ filter h xs
 kept_same_in f h [] e = refl
 kept_same_in f h (x ∷ xs) e = ap₂ (λ b ys. cond b (x ∷ ys) ys) e.0 (kept_same_in f h xs e.1)
@@ -91,6 +93,11 @@ module _ (w : WorkingSheet) (charge : Charge) (c : ℤ) where
         q
         ∙ ap word_of (kept_same_in (affords w charge f c i) (keeps (row_of w i)) (members d) (all_from_in (λ s. affords w charge f c i s ≡ keeps (row_of w i) s) (members d) judged))
         ∙ sym (new_at i l ∙ cond-false (single d) d (keep (keeps (row_of w i)) d) e)
+
+-- the rank in the figures of a free case
+pub free_ranked : (w : WorkingSheet) (charge : Charge) (f : Figures) → RightFigures w charge f → (i : ℕ) → i < w.count → not (single (get_or w.sets i 0)) ≡ true → get_or f.ranks i 0 < f.cases
+free_ranked w charge f h i l e =
+    omega (arith, row_rank_below (take w.count w.needs) (sets_in w) (row_of w i) (free_case w i l (not-true _ e)), h.ranks i l, h.cases)
 
 -- ---- what Bound answers
 

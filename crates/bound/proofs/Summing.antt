@@ -1,6 +1,8 @@
 -- The running sums over the tables are those of the bound. Assumes nothing.
-use Rattle.std.proofs.Common.{◌≡◌, ℕ, zero, suc, ◌<◌, ◌≤◌, Bool, cond, List, [], ◌∷◌, map, length, get_or, ℤ, pos, ◌+ℤ◌, filter, refl, ap, ◌∙◌, ap₂, add-zero, add-one, arith}
+use Rattle.std.proofs.Common.{true, false, ltb, sym, ◌≡◌, ℕ, zero, suc, ◌<◌, ◌≤◌, List, map, length, get_or, ℤ, pos, ◌+ℤ◌, refl, ap, ◌∙◌, ap₂, add-zero, add-one, arith}
+use Rattle.std.proofs.lemmas.Bool.{ltb-false, ltb-true}
 use Rattle.std.proofs.lemmas.List.{get_or-map}
+use Rattle.std.proofs.lemmas.List.Elements.{filter_agree}
 use Rattle.slot_set.specs.Sets.{every_slot, has, members}
 use Rattle.tariff.specs.Charges.{Charge}
 use Rattle.planning.specs.Plans.{Given}
@@ -11,16 +13,20 @@ use Rattle.bound.specs.Bound.{C, L, R, Row, V, free_of, in_some, pair, slot_befo
 use Rattle.bound.specs.Tables.{NeedsPlaced, PricesPlaced, beside, rows_in, slot_rank, sooner, sum_below}
 use Rattle.bound.specs.Sorting.{length_sorted}
 
-kept_same : {A : Type 0} (f h : A → Bool) → ((x : A) → f x ≡ h x) → (xs : List A) → filter f xs ≡ filter h xs
-kept_same f h e [] = refl
-kept_same f h e (x ∷ xs) = ap₂ (λ b ys. cond b (x ∷ ys) ys) (e x) (kept_same f h e xs)
-
 sum_same : (f h : ℕ → ℤ) (k : ℕ) → ((j : ℕ) → j < k → f j ≡ h (suc j)) → sum_below f k ≡ sum_to h k
 sum_same f h zero e = refl
 sum_same f h (suc k) e = ap₂ (λ x y. x +ℤ y) (sum_same f h k (λ j l. e j (omega arith))) (e k (omega arith))
 
 pub union_is : (rs : List Row) (word : ℕ) → ((s : ℕ) → has word s ≡ in_some (free_of rs) s) → members word ≡ union rs
-union_is rs word e = kept_same (has word) (in_some (free_of rs)) e every_slot
+union_is rs word e = filter_agree (has word) (in_some (free_of rs)) e every_slot
+
+-- the test of the free cases and the slots of a word, which are theirs
+module _ (rs : List Row) (word n : ℕ) (same : (s : ℕ) → has word s ≡ in_some (free_of rs) s) (cases : n ≡ length (free_of rs)) where
+  pub slots_few : true ≡ ltb (length (members word)) n → length (union rs) < length (free_of rs)
+  slots_few e = omega (arith, ltb-true (length (members word)) n (sym e), ap length (union_is rs word same), cases)
+
+  pub slots_enough : false ≡ ltb (length (members word)) n → length (free_of rs) ≤ length (union rs)
+  slots_enough e = omega (arith, ltb-false (length (members word)) n (sym e), ap length (union_is rs word same), cases)
 
 module _ (w : WorkingSheet) (charge : Charge) (word : ℕ) (ns : List ℕ) (qs : List ℤ)
     (same : (s : ℕ) → has word s ≡ in_some (free_of (rows_in w)) s)

@@ -1,13 +1,13 @@
 -- What the bound under a choice is worked out from, and how. Assumes nothing.
 use Rattle.std.specs.Prelude.{◌≡◌, ℕ, ◌+◌, ◌-◌, ◌<◌, ◌≤◌, Bool, cond, List, length, ℤ, pos, ◌+ℤ◌, ◌-ℤ◌, ◌==◌, int_le, nat_lt, slice_index, slice_index_or}
-use Rattle.tariff.specs.Charges.{Charge, Within}
+use Rattle.tariff.specs.Charges.{Charge}
 use Rattle.planning.specs.Lists.{In}
 use Rattle.planning.specs.Plans.{at_slot}
 use Rattle.planning.specs.Working.{given}
 use Rattle.planning.specs.declared.working_sheet.WorkingSheet.{WorkingSheet}
 use Rattle.bound.specs.Orderings.{count}
 use Rattle.bound.specs.Bound.{C, L, R, Row, bound_at, fixed_sum, free_of, slot_before, union}
-use Rattle.bound.specs.Tables.{AllSmall, CaseRanks, row_rank, rows_in}
+use Rattle.bound.specs.Tables.{CaseRanks, row_rank, rows_in}
 use Rattle.bound.specs.declared.figures.Figures.{Figures}
 
 -- the cases between ranks a and b moved by one slot, with a charge w in place of one of them
@@ -34,17 +34,8 @@ chosen f i j w =
 abbrev pub affords : WorkingSheet → Charge → Figures → ℤ → ℕ → ℕ → Bool
 affords w charge f c i s = int_le (chosen f (slice_index f.ranks i) (slice_index f.slots s) (charge (slice_index w.needs i) (slice_index_or w.prices s (pos 0)))) c
 
--- small enough that no sum of them wraps
-pub record SmallFigures (f : Figures) : Type 0 where
-  pub cases : f.cases ≤ 16
-  pub fixed : Within 16000000000000 f.fixed
-  pub level : AllSmall f.level
-  pub lower : AllSmall f.lower
-  pub upper : AllSmall f.upper
-
 -- the figures of a working sheet
 pub record RightFigures (w : WorkingSheet) (charge : Charge) (f : Figures) : Type 0 where
-  pub small : SmallFigures f
   pub cases : f.cases ≡ length (free_of (rows_in w))
   pub fixed : f.fixed ≡ fixed_sum (given w charge) (rows_in w)
   pub level : (k : ℕ) → k ≤ f.cases → slice_index_or f.level k (pos 0) ≡ C (given w charge) (rows_in w) k

@@ -13,7 +13,7 @@ use Rattle.pruners.specs.Sum.{least_in}
 use Rattle.bound.specs.Bound.{Row, U, bound_strike, fixed_sum, free, free_of, row_before, rows_from}
 use Rattle.planning.proofs.Lists.{ordered_kept}
 use Rattle.bound.specs.Sorting.{apart_sorted, sum_over}
-use Rattle.planning.proofs.Slots.{keep_has, keep_part}
+use Rattle.slot_set.proofs.Keeps.{keep_has, keep_part}
 use Rattle.bound.specs.Singles.{single_least}
 
 -- the slots of a plan from row i on, by row

@@ -9,19 +9,26 @@ use crate::placed::{needs_by_place, prices_by_place};
 use crate::ranks::{case_ranks, slot_ranks};
 use crate::running::{running_sums, sum_of_fixed};
 use planning::WorkingSheet;
+use slot_set::SlotSet;
 use tariff::Tariff;
 
-// The figures of a working sheet of `n` free cases, whose slots are `word`.
-pub(crate) fn figures_of<T: Tariff>(tariff: &T, work: &WorkingSheet, n: usize, word: u64) -> Figures
+// The figures of a working sheet of `n` free cases, whose slots are `slots`.
+#[tactic(auto, using(crate::proofs::Filling::free_few))]
+pub(crate) fn figures_of<T: Tariff>(
+    tariff: &T,
+    work: &WorkingSheet,
+    n: usize,
+    slots: SlotSet,
+) -> Figures
     requires cases { n ≡ length (free_of (rows_in work.now)) }
-    requires slots { (s : ℕ) → has word s ≡ in_some (free_of (rows_in work.now)) s }
+    requires slots { (s : ℕ) → has slots.word s ≡ in_some (free_of (rows_in work.now)) s }
     requires enough { n ≤ length (union (rows_in work.now)) }
     ensures { RightFigures work.now (T.Tariff.charges tariff.now) result }
 {
-    let ranks = case_ranks(work);
-    let slots = slot_ranks(&work.prices, word);
-    let needs = needs_by_place(work, &ranks);
-    let prices = prices_by_place(&work.prices, word, &slots);
+    let case_ranks = case_ranks(work);
+    let slot_ranks = slot_ranks(&work.prices, slots);
+    let needs = needs_by_place(work, &case_ranks);
+    let prices = prices_by_place(&work.prices, slots, &slot_ranks);
     let level = running_sums(tariff, &needs, &prices, 0, 0, n);
     let lower = running_sums(tariff, &needs, &prices, 1, 0, n);
     let upper = running_sums(tariff, &needs, &prices, 0, 1, n);
@@ -32,7 +39,7 @@ pub(crate) fn figures_of<T: Tariff>(tariff: &T, work: &WorkingSheet, n: usize, w
         level,
         lower,
         upper,
-        ranks,
-        slots,
+        ranks: case_ranks,
+        slots: slot_ranks,
     }
 }

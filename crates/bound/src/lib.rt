@@ -16,7 +16,6 @@ mod running;
 mod strike;
 #[cfg(test)]
 mod tests;
-mod words;
 
 pub use pruner::Bound;
 

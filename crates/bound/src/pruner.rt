@@ -5,11 +5,10 @@ ghost use Rattle.bound.specs.Bound.{bound_prune};
 ghost use Rattle.bound.specs.BoundLaw.{bound_lawful};
 
 use crate::build::figures_of;
-use crate::choice::whole_bound;
 use crate::free::{free_cases, free_slots};
-use crate::strike::struck_sets;
-use crate::words::{any_empty, slot_count};
+use crate::strike::Strike;
 use planning::{Pruner, WorkingSheet};
+use slot_set::{SlotSet, any_empty};
 use tariff::Tariff;
 
 // Bound: the free cases by falling need, matched to their slots by rising price, cost no more than any plan. A slot is
@@ -28,33 +27,39 @@ impl Pruner for Bound {
 }
 
 // What Bound answers.
+#[tactic(auto, using(crate::proofs::Strikes::dead_after, crate::proofs::Strikes::dead_empty))]
 fn bound_sets<T: Tariff>(tariff: &T, ceiling: i64, work: &WorkingSheet) -> Option<[u64; 16]>
     ensures rest { RestKept work.now.count work.now.sets result }
     ensures meaning { first_sets work.now.count result ≡ bound_prune (given work.now (T.Tariff.charges tariff.now)) ceiling (sets_in work.now) }
 {
-    let sets = work.sets;
-    if any_empty(&sets, work.count) {
+    if any_empty(work.sets()) {
         return None;
     }
     let n = free_cases(work);
-    let word = free_slots(work);
-    if too_few(word, n) {
+    let slots = free_slots(work);
+    if too_few(slots, n) {
         return None;
     }
-    let figures = figures_of(tariff, work, n, word);
-    if ceiling < whole_bound(&figures) {
+    let figures = figures_of(tariff, work, n, slots);
+    if ceiling < figures.whole_bound() {
         return None;
     }
-    let next = struck_sets(tariff, ceiling, work, &figures);
-    if any_empty(&next, work.count) {
+    let strike = Strike {
+        tariff,
+        ceiling,
+        work,
+        figures: &figures,
+    };
+    let next = strike.struck_sets();
+    if any_empty(&next[..work.count]) {
         return None;
     }
     Some(next)
 }
 
 // Whether a set has fewer slots than there are free cases.
-fn too_few(word: u64, n: usize) -> bool
-    ensures { result ≡ nat_lt (length (members word)) n }
+fn too_few(slots: SlotSet, n: usize) -> bool
+    ensures { result ≡ nat_lt (length (members slots.word)) n }
 {
-    slot_count(word) < n
+    slots.len() < n
 }

@@ -2,72 +2,67 @@ ghost use Rattle.std.specs.Prelude.{◌≡◌, ◌<◌, ◌≤◌, length, take,
 ghost use Rattle.slot_set.specs.Sets.{keep};
 ghost use Rattle.planning.specs.Working.{given};
 ghost use Rattle.bound.specs.Bound.{bound_new, free_of, union};
-ghost use Rattle.bound.specs.Figures.{RightFigures, SmallFigures, affords};
+ghost use Rattle.bound.specs.Figures.{RightFigures, affords};
 ghost use Rattle.bound.specs.Tables.{rows_in};
 
-use crate::choice::bound_under;
+use crate::choice::Choice;
 use crate::figures::Figures;
-use crate::words::{in_set, is_single};
+use crate::free::is_free;
+use crate::running::charge_at;
 use planning::WorkingSheet;
+use slot_set::SlotSet;
 use tariff::Tariff;
 
-// Each set of a free case without the slots under whose choice the bound exceeds the ceiling.
-pub(crate) fn struck_sets<T: Tariff>(
-    tariff: &T,
-    ceiling: i64,
-    work: &WorkingSheet,
-    figures: &Figures,
-) -> [u64; 16]
-    requires right { RightFigures work.now (T.Tariff.charges tariff.now) figures.now }
-    requires enough { length (free_of (rows_in work.now)) ≤ length (union (rows_in work.now)) }
-    ensures struck { take work.now.count result ≡ bound_new (given work.now (T.Tariff.charges tariff.now)) ceiling (rows_in work.now) }
-    ensures rest { drop work.now.count result ≡ drop work.now.count work.now.sets }
-{
-    let mut next = work.sets;
-    for i in 0..work.count {
-        if !is_single(work.sets[i]) {
-            next[i] = affordable_slots(tariff, ceiling, work, figures, i);
-        }
-    }
-    next
+// What the slots of free cases are judged by, where there are slots enough.
+#[derive(Drop)]
+pub(crate) struct Strike<'a, T: Tariff> {
+    pub(crate) tariff: &'a T,
+    pub(crate) ceiling: i64,
+    pub(crate) work: &'a WorkingSheet,
+    pub(crate) figures: &'a Figures,
+    ghost right: { RightFigures work.now (T.Tariff.charges tariff.now) figures.now },
+    ghost enough: { length (free_of (rows_in work.now)) ≤ length (union (rows_in work.now)) },
 }
 
-// The slots of the set of a free case that are affordable for it.
-fn affordable_slots<T: Tariff>(
-    tariff: &T,
-    ceiling: i64,
-    work: &WorkingSheet,
-    figures: &Figures,
-    case: usize,
-) -> u64
-    requires place { case < work.now.count }
-    requires rank { slice_index figures.now.ranks case < figures.now.cases }
-    requires small { SmallFigures figures.now }
-    ensures { result ≡ keep (affords work.now (T.Tariff.charges tariff.now) figures.now ceiling case) (slice_index work.now.sets case) }
-{
-    let set = work.sets[case];
-    let mut word = 0;
-    for s in 0..64 {
-        if in_set(set, s) && affordable(tariff, ceiling, work, figures, case, s) {
-            word |= 1 << s;
+impl<'a, T: Tariff> Strike<'a, T> {
+    // Each set of a free case without the slots under whose choice the bound exceeds the ceiling.
+    #[tactic(auto, using(crate::proofs::Strikes::free_ranked, crate::proofs::Strikes::length_new, std::proofs::lemmas::List::take_all, crate::proofs::Counting::set_read, crate::proofs::Counting::sets_long))]
+    pub(crate) fn struck_sets(&self) -> [u64; 16]
+        ensures struck { take self.now.work.now.count result ≡ bound_new (given self.now.work.now (T.Tariff.charges self.now.tariff.now)) self.now.ceiling (rows_in self.now.work.now) }
+        ensures rest { drop self.now.work.now.count result ≡ drop self.now.work.now.count self.now.work.now.sets }
+    {
+        let mut next = self.work.sets;
+        for (case, set) in self.work.sets().iter().enumerate() {
+            if is_free(*set) {
+                next[case] = self.affordable_slots(case);
+            }
         }
+        next
     }
-    word
-}
 
-fn affordable<T: Tariff>(
-    tariff: &T,
-    ceiling: i64,
-    work: &WorkingSheet,
-    figures: &Figures,
-    case: usize,
-    slot: usize,
-) -> bool
-    requires place { (case < work.now.count) × (slot < 64) }
-    requires rank { slice_index figures.now.ranks case < figures.now.cases }
-    requires small { SmallFigures figures.now }
-    ensures { result ≡ affords work.now (T.Tariff.charges tariff.now) figures.now ceiling case slot }
-{
-    let charge = tariff.charge(work.needs[case], work.prices[slot]);
-    bound_under(figures, figures.ranks[case], figures.slots[slot], charge) <= ceiling
+    // The slots of the set of a free case that are affordable for it.
+    fn affordable_slots(&self, case: usize) -> u64
+        requires place { case < self.now.work.now.count }
+        requires rank { slice_index self.now.figures.now.ranks case < self.now.figures.now.cases }
+        ensures { result ≡ keep (affords self.now.work.now (T.Tariff.charges self.now.tariff.now) self.now.figures.now self.now.ceiling case) (slice_index self.now.work.now.sets case) }
+    {
+        SlotSet::from(self.work.sets[case])
+            .filter(|slot| self.affords(case, slot))
+            .into()
+    }
+
+    fn affords(&self, case: usize, slot: usize) -> bool
+        requires place { case < self.now.work.now.count }
+        requires slot { slot < 64 }
+        requires rank { slice_index self.now.figures.now.ranks case < self.now.figures.now.cases }
+        ensures { result ≡ affords self.now.work.now (T.Tariff.charges self.now.tariff.now) self.now.figures.now self.now.ceiling case slot }
+    {
+        let choice = Choice {
+            figures: self.figures,
+            case: self.figures.ranks[case],
+            slot: self.figures.slots[slot],
+            charge: charge_at(self.tariff, &self.work.prices, self.work.needs[case], slot),
+        };
+        choice.bound() <= self.ceiling
+    }
 }

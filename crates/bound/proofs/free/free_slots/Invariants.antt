@@ -5,5 +5,5 @@ use Rattle.bound.specs.Tables.{rows_in}
 use Rattle.bound.proofs.free.free_slots.Given as goal
 
 -- the slots of the free cases looked at so far
-abbrev pub invariant-loop-i : goal.invariant-loop-i
-invariant-loop-i l = (s : ℕ) → has l.word s ≡ in_some (free_of (take l.i (rows_in l.work))) s
+abbrev pub invariant-loop-set : goal.invariant-loop-set
+invariant-loop-set l = (s : ℕ) → has l.slots.word s ≡ in_some (free_of (take l.set-index (rows_in l.work))) s

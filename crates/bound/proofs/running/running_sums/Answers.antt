@@ -12,7 +12,7 @@ overflow_add-sums g c =
     let j = c.loop-j.j in
     let b = below_within charges g.T.Tariff.greatest (g.met.T.Tariff.lawful c.args.tariff.now) c.args.needs.now c.args.prices.now c.args.a c.args.b j in
     let e = c.loop-j.invariant.1 j (omega arith) in
-    let s = c.charge_between.ensures.small in
+    let s = c.charge_at.ensures.small in
     omega (arith, ints)
 
 pub loop-j-preserved : goal.loop-j-preserved
@@ -23,9 +23,9 @@ loop-j-preserved g c =
     let f : ℕ → ℤ = beside charges c.args.needs.now c.args.prices.now c.args.a c.args.b in
     let b = below_within charges g.T.Tariff.greatest (g.met.T.Tariff.lawful c.args.tariff.now) c.args.needs.now c.args.prices.now c.args.a c.args.b j in
     let e = c.loop-j.invariant.1 j (omega arith) in
-    let s = c.charge_between.ensures.small in
-    let q : c.charge_between.result ≡ f j = c.charge_between.ensures.charge in
-    let v : ℤ = to_z w64 (of_z w64 (to_z w64 (of_z w64 (get_or zs j (pos 0))) +ℤ to_z w64 (of_z w64 c.charge_between.result))) in
+    let s = c.charge_at.ensures.small in
+    let q : c.charge_at.result ≡ f j = c.charge_at.ensures.charge in
+    let v : ℤ = to_z w64 (of_z w64 (to_z w64 (of_z w64 (get_or zs j (pos 0))) +ℤ to_z w64 (of_z w64 c.charge_at.result))) in
     let is : v ≡ (sum_below f j +ℤ f j) = omega (arith, ints) in
     let here : v ≡ sum_below f (j + 1) = is ∙ ap (sum_below f) (sym (add-one j)) in (
       length-set zs (j + 1) v ∙ c.loop-j.invariant.0,
