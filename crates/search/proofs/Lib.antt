@@ -1,9 +1,9 @@
+pub mod Alike
 pub mod Entering
 pub mod Going
-pub mod Root
+pub mod Start
 pub mod Sums
 pub mod Undone
 pub mod Untried
 pub mod Visits
 pub mod Words
-pub mod Work

@@ -1,17 +1,18 @@
 -- One visit, and the frames that it leaves. Assumes nothing.
-use Rattle.std.proofs.Common.{◌≡◌, ℕ, zero, suc, ◌-◌, ◌^◌, ◌<◌, ◌≤◌, true, false, cond, eqb, List, [], ◌∷◌, ◌++◌, length, get_or, take, set, ℤ, pos, ◌-ℤ◌, Some, None, Option, sym, refl, ap, ◌∙◌, add-one, arith}
+use Rattle.std.proofs.Common.{◌≡◌, ℕ, zero, suc, ◌-◌, ◌^◌, ◌<◌, ◌≤◌, Bool, true, false, cond, eqb, List, [], ◌∷◌, ◌++◌, length, get_or, take, set, ℤ, pos, ◌-ℤ◌, Some, None, Option, sym, refl, ap, ◌∙◌, add-one, arith}
 use lib.Signed.{le_z}
 use Rattle.std.specs.Option.{option_map}
 use Rattle.std.proofs.lemmas.List.{take-set-le, length-take-le}
 use Rattle.std.proofs.lemmas.Bool.{cond-true, cond-false, eq-eqb, ne_eqb}
-use Rattle.stack.specs.declared.Stack.{Stack}
 use Rattle.stack.specs.Entries.{held}
 use Rattle.planning.specs.Plans.{Given, total}
 use Rattle.planning.specs.Pruners.{Prune}
 use Rattle.search_rules.specs.Search.{State, visit, try_each, branches, answered, stop, step, better}
 use Rattle.search.specs.declared.saving.Saved.{Saved}
 use Rattle.search.specs.declared.deciding.Decision.{Decision}
-use Rattle.search.specs.declared.outcome.Outcome.{Outcome}
+use Rattle.search.specs.declared.tally.Tally.{Tally}
+use Rattle.search.specs.declared.trail.Trail.{Trail}
+use Rattle.search.specs.Trails.{saved_at, sets_at}
 use Rattle.search.specs.Counts.{state, stepped, bettered}
 use Rattle.search.specs.Frames.{Frame, resume, untried, frames}
 use Rattle.search.specs.Runs.{Asked}
@@ -66,34 +67,34 @@ resume_live g f limit n plan os m left sv su ds es t short e u k =
     ∙ ap (λ x. resume g f limit (frames n plan os (kept m sv) x) (after_answer g f limit left (take (length os) plan) t (Some (take n es)))) u
 
 -- after a question, in both cases
-pub asked_resumes : (g : Given) (f : Prune) (limit n : ℕ) (plan : List ℕ) (os ps : List Decision) (m left : ℕ) (s u : Stack Saved) (ds es : List ℕ) (t : State) (o : Option (List ℕ))
-    → length os ≤ length plan → n - length os ≡ suc left → Asked o n m s ds os u es ps
-    → resume g f limit (frames n plan ps (held u) es) (step t)
-    ≡ resume g f limit (frames n plan os (kept m (held s)) (undone m (held s) ds)) (after_answer g f limit left (take (length os) plan) t o)
-asked_resumes g f limit n plan os ps m left s u ds es t None short e a =
-    ap (λ x. resume g f limit (frames n plan x (held u) es) (step t)) a.0
-    ∙ ap (λ x. resume g f limit (frames n plan os x es) (step t)) a.2
-    ∙ ap (λ x. resume g f limit (frames n plan os (kept m (held s)) x) (step t)) a.1
-asked_resumes g f limit n plan os ps m left s u ds es t (Some new) short e a =
-    ap (λ x. resume g f limit (frames n plan x (held u) es) (step t)) a.0
-    ∙ resume_live g f limit n plan os m left (held s) (held u) ds es t short e a.2 a.3
-    ∙ ap (λ x. resume g f limit (frames n plan os (kept m (held s)) (undone m (held s) ds)) (after_answer g f limit left (take (length os) plan) t (Some x))) a.1
+pub asked_resumes : (g : Given) (f : Prune) (limit n : ℕ) (plan : List ℕ) (os ps : List Decision) (m left : ℕ) (x y : Trail) (t : State) (o : Option (List ℕ))
+    → length os ≤ length plan → n - length os ≡ suc left → Asked o n m x os y ps
+    → resume g f limit (frames n plan ps (held y.saved) y.sheet.sets) (step t)
+    ≡ resume g f limit (frames n plan os (saved_at m x) (sets_at m x)) (after_answer g f limit left (take (length os) plan) t o)
+asked_resumes g f limit n plan os ps m left x y t None short e a =
+    ap (λ z. resume g f limit (frames n plan z (held y.saved) y.sheet.sets) (step t)) a.0
+    ∙ ap (λ z. resume g f limit (frames n plan os z y.sheet.sets) (step t)) a.2
+    ∙ ap (λ z. resume g f limit (frames n plan os (saved_at m x) z) (step t)) a.1
+asked_resumes g f limit n plan os ps m left x y t (Some new) short e a =
+    ap (λ z. resume g f limit (frames n plan z (held y.saved) y.sheet.sets) (step t)) a.0
+    ∙ resume_live g f limit n plan os m left (held x.saved) (held y.saved) x.sheet.sets y.sheet.sets t short e a.2 a.3
+    ∙ ap (λ z. resume g f limit (frames n plan os (saved_at m x) (sets_at m x)) (after_answer g f limit left (take (length os) plan) t (Some z))) a.1
 
 -- the code's counts
-pub state_stepped : (n : ℕ) (c : Outcome) (v : ℤ) → state n (stepped c) v ≡ step (state n c v)
-state_stepped n c v =
-    ap (λ (k : ℕ). record { ceiling = v; steps = k; betterings = c.betterings; best = option_map (take n) c.best; stopped = c.stopped }) (add-one c.steps)
+pub state_stepped : (n : ℕ) (b : Bool) (c : Tally) (v : ℤ) → state n b (stepped c) v ≡ step (state n b c v)
+state_stepped n b c v =
+    ap (λ (k : ℕ). record { ceiling = v; steps = k; betterings = c.betterings; best = option_map (take n) c.best; stopped = b }) (add-one c.steps)
 
-state_bettered : (g : Given) (n : ℕ) (plan : List ℕ) (c : Outcome) (v : ℤ) → state n (bettered plan c) (total g (take n plan) -ℤ pos 1) ≡ better g (take n plan) (state n c v)
-state_bettered g n plan c v =
-    ap (λ (k : ℕ). record { ceiling = total g (take n plan) -ℤ pos 1; steps = c.steps; betterings = k; best = Some (take n plan); stopped = c.stopped }) (add-one c.betterings)
+state_bettered : (g : Given) (n : ℕ) (plan : List ℕ) (b : Bool) (c : Tally) (v : ℤ) → state n b (bettered plan c) (total g (take n plan) -ℤ pos 1) ≡ better g (take n plan) (state n b c v)
+state_bettered g n plan b c v =
+    ap (λ (k : ℕ). record { ceiling = total g (take n plan) -ℤ pos 1; steps = c.steps; betterings = k; best = Some (take n plan); stopped = b }) (add-one c.betterings)
 
-pub state_compared : (g : Given) (n : ℕ) (plan : List ℕ) (z v : ℤ) (c : Outcome) → z ≡ total g (take n plan)
-    → state n (cond (le_z z v) (bettered plan c) c) (cond (le_z z v) (z -ℤ pos 1) v) ≡ cond (le_z (total g (take n plan)) v) (better g (take n plan) (state n c v)) (state n c v)
-state_compared g n plan z v c e =
-    ap (λ (x : ℤ). state n (cond (le_z x v) (bettered plan c) c) (cond (le_z x v) (x -ℤ pos 1) v)) e
-    ∙ elim (le_z (total g (take n plan)) v) as (λ b. state n (cond b (bettered plan c) c) (cond b (total g (take n plan) -ℤ pos 1) v) ≡ cond b (better g (take n plan) (state n c v)) (state n c v)) [
-      | true ↦ state_bettered g n plan c v
+pub state_compared : (g : Given) (n : ℕ) (plan : List ℕ) (z v : ℤ) (b : Bool) (c : Tally) → z ≡ total g (take n plan)
+    → state n b (cond (le_z z v) (bettered plan c) c) (cond (le_z z v) (z -ℤ pos 1) v) ≡ cond (le_z (total g (take n plan)) v) (better g (take n plan) (state n b c v)) (state n b c v)
+state_compared g n plan z v b c e =
+    ap (λ (x : ℤ). state n b (cond (le_z x v) (bettered plan c) c) (cond (le_z x v) (x -ℤ pos 1) v)) e
+    ∙ elim (le_z (total g (take n plan)) v) as (λ t. state n b (cond t (bettered plan c) c) (cond t (total g (take n plan) -ℤ pos 1) v) ≡ cond t (better g (take n plan) (state n b c v)) (state n b c v)) [
+      | true ↦ state_bettered g n plan b c v
       | false ↦ refl
     ]
 

@@ -1,32 +1,33 @@
 -- What the code has counted and kept, as the state of a search. Assumes nothing.
-use Rattle.std.specs.Prelude.{ℕ, suc, ◌+◌, ◌-◌, true, cond, List, take, ℤ, Some}
+use Rattle.std.specs.Prelude.{◌≡◌, ℕ, ◌+◌, ◌<◌, Bool, List, take, ℤ, Some, Ok, Err, Result}
 use Rattle.std.specs.Option.{option_map}
-use Rattle.stack.specs.declared.Stack.{Stack}
 use Rattle.ceiling.specs.declared.CeilingGuard.{CeilingGuard}
 use Rattle.search_rules.specs.Search.{State}
-use Rattle.search.specs.declared.outcome.Outcome.{Outcome}
-use Rattle.search.specs.declared.deciding.Decision.{Decision}
+use Rattle.search.specs.declared.tally.Tally.{Tally}
+use Rattle.search.specs.declared.tally.LimitReached.{LimitReached}
 
--- an outcome and a ceiling as a state of a search over n cases
-abbrev pub state : ℕ → Outcome → ℤ → State
-state n c z = record { ceiling = z; steps = c.steps; betterings = c.betterings; best = option_map (take n) c.best; stopped = c.stopped }
+-- a tally and a ceiling as a state of a search over n cases, stopped or not
+abbrev pub state : ℕ → Bool → Tally → ℤ → State
+state n b c z = record { ceiling = z; steps = c.steps; betterings = c.betterings; best = option_map (take n) c.best; stopped = b }
 
 -- one step more
-abbrev pub stepped : Outcome → Outcome
-stepped c = record { steps = c.steps + 1; betterings = c.betterings; best = c.best; stopped = c.stopped }
+abbrev pub stepped : Tally → Tally
+stepped c = record { steps = c.steps + 1; betterings = c.betterings; best = c.best }
 
--- the search is stopped
-abbrev pub halted : Outcome → Outcome
-halted c = record { steps = c.steps; betterings = c.betterings; best = c.best; stopped = true }
+-- a step is counted, or the count already equals the limit
+abbrev pub CountedStep : Result (Unit {0}) LimitReached → ℕ → Tally → Tally → Type 0
+CountedStep (Ok u) limit c d = (c.steps < limit) × (d ≡ stepped c)
+CountedStep (Err e) limit c d = (c.steps ≡ limit) × (d ≡ c)
 
 -- one bettering more, by the plan p
-abbrev pub bettered : List ℕ → Outcome → Outcome
-bettered p c = record { steps = c.steps; betterings = c.betterings + 1; best = Some p; stopped = c.stopped }
+abbrev pub bettered : List ℕ → Tally → Tally
+bettered p c = record { steps = c.steps; betterings = c.betterings + 1; best = Some p }
 
 -- the ceiling that a guard reads
 abbrev pub ceiling_of : CeilingGuard → ℤ
 ceiling_of g = g.held.now.value
 
--- what is left to do: each step opens at most one decision, and each turn takes a step or closes a decision
-abbrev pub remaining : ℕ → Outcome → Stack Decision → ℕ
-remaining limit c o = cond c.stopped 0 (suc ((limit - c.steps) + ((limit - c.steps) + o.height)))
+-- two guards over one ceiling record, that put it back to the same
+pub record SameGuard (a b : CeilingGuard) : Type 0 where
+  pub name : b.held.ghost_name ≡ a.held.ghost_name
+  pub entry : b.entry ≡ a.entry

@@ -1,5 +1,5 @@
 -- The search as a list of frames: the part-plans that were asked and not left, the latest first. Assumes nothing.
-use Rattle.std.specs.Prelude.{ℕ, suc, ◌+◌, ◌-◌, ◌^◌, not, List, [], ◌∷◌, ◌++◌, length, take, filter, slice_index, slice_set}
+use Rattle.std.specs.Prelude.{◌≡◌, ℕ, suc, ◌+◌, ◌-◌, ◌^◌, ◌<◌, true, not, List, [], ◌∷◌, ◌++◌, length, take, filter, Some, None, Option, slice_index, slice_set}
 use Rattle.slot_set.specs.Sets.{has, from}
 use Rattle.planning.specs.Plans.{Given, used}
 use Rattle.planning.specs.Pruners.{Prune}
@@ -28,6 +28,11 @@ slots_from k = from k (64 - k)
 -- the slots of a set that are not below k and that the part-plan p does not use
 abbrev pub untried : List ℕ → ℕ → ℕ → List ℕ
 untried p word k = filter (λ s. not (used s p)) (filter (has word) (slots_from k))
+
+-- the lowest of them, which begins what there is to try; without one there is nothing to try
+abbrev pub NextUntried : List ℕ → ℕ → ℕ → Option ℕ → Type 0
+NextUntried p word k None = untried p word k ≡ []
+NextUntried p word k (Some s) = (s < 64) × (has word s ≡ true) × (untried p word k ≡ s ∷ untried p word (s + 1))
 
 -- a decision once a slot is tried
 abbrev pub after_slot : Decision → ℕ → Decision

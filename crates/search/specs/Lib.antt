@@ -3,3 +3,4 @@ pub mod Frames
 pub mod Outcomes
 pub mod Runs
 pub mod Saves
+pub mod Trails

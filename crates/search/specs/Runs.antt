@@ -1,42 +1,41 @@
--- What the parts of the search keep, and what a question to the pruner leaves. Assumes nothing.
-use Rattle.std.specs.Prelude.{◌≡◌, ℕ, ◌≤◌, List, ◌∷◌, take, Some, None, Option}
-use Rattle.stack.specs.declared.Stack.{Stack}
-use Rattle.stack.specs.Entries.{held, room}
-use Rattle.ceiling.specs.declared.CeilingGuard.{CeilingGuard}
-use Rattle.planning.specs.declared.working_sheet.WorkingSheet.{WorkingSheet}
-use Rattle.planning.specs.Plans.{Given}
+-- What a search keeps while it goes on, and what it comes to from where it stands. Assumes nothing.
+use Rattle.std.specs.Prelude.{◌≡◌, ℕ, ◌+◌, ◌-◌, Bool, false, List, ◌∷◌, take, ℤ, Some, None, Option}
+use Rattle.stack.specs.Entries.{held}
+use Rattle.tariff.specs.Charges.{Charge}
 use Rattle.planning.specs.Pruners.{Prune}
-use Rattle.search_rules.specs.Search.{State}
-use Rattle.search.specs.declared.saving.Saved.{Saved}
+use Rattle.planning.specs.Working.{given, sets_in}
+use Rattle.search_rules.specs.Search.{State, visit}
 use Rattle.search.specs.declared.deciding.Decision.{Decision}
-use Rattle.search.specs.declared.outcome.Outcome.{Outcome}
-use Rattle.search.specs.Counts.{state, ceiling_of}
+use Rattle.search.specs.declared.exploration.Exploration.{Exploration}
+use Rattle.search.specs.declared.trail.Trail.{Trail}
+use Rattle.search.specs.Counts.{state}
 use Rattle.search.specs.Frames.{goes}
-use Rattle.search.specs.Saves.{undone, kept, Sound}
+use Rattle.search.specs.Trails.{Alike, saved_at, sets_at}
 
--- two working sheets that differ in their sets alone
-pub record Alike (a b : WorkingSheet) : Type 0 where
-  pub needs : b.needs ≡ a.needs
-  pub prices : b.prices ≡ a.prices
-  pub opened : b.opened ≡ a.opened
-  pub count : b.count ≡ a.count
+-- what no step of a search changes
+pub record Kept (a b : Exploration) : Type 0 where
+  pub limit : b.limit ≡ a.limit
+  pub sheet : Alike a.trail.sheet b.trail.sheet
 
--- after a question about n cases, by its answer: dead puts the entries down to the mark m back; new sets are adopted under a new open decision, from which the entries down to m still go back to the same
-abbrev pub Asked : Option (List ℕ) → ℕ → ℕ → Stack Saved → List ℕ → List Decision → Stack Saved → List ℕ → List Decision → Type 0
-Asked None n m s ds os t es ps = (ps ≡ os) × (es ≡ undone m (held s) ds) × (held t ≡ kept m (held s))
-Asked (Some new) n m s ds os t es ps =
-    (ps ≡ record { mark = m; next = 0 } ∷ os) × (take n es ≡ new) × (undone m (held t) es ≡ undone m (held s) ds) × (kept m (held t) ≡ kept m (held s))
+-- after a question about n cases, by its answer: dead puts the trail a back down to the mark m; new sets are adopted under a new open decision, from which the trail goes back down to m to the same
+abbrev pub Asked : Option (List ℕ) → ℕ → ℕ → Trail → List Decision → Trail → List Decision → Type 0
+Asked None n m a os b ps = (ps ≡ os) × (b.sheet.sets ≡ sets_at m a) × (held b.saved ≡ saved_at m a)
+Asked (Some new) n m a os b ps = (ps ≡ record { mark = m; next = 0 } ∷ os) × (take n b.sheet.sets ≡ new) × (sets_at m b ≡ sets_at m a) × (saved_at m b ≡ saved_at m a)
 
--- what a run keeps, with the sheet h, the outcome c, the saved entries s and the open decisions o
-pub record Ready (limit : ℕ) (h : WorkingSheet) (c : Outcome) (s : Stack Saved) (o : Stack Decision) : Type 0 where
-  pub count : h.count ≤ 16
-  pub steps : c.steps ≤ limit
-  pub betterings : c.betterings ≤ c.steps
-  pub saved : Sound h.opened s h.sets
-  pub low : o.height ≤ room o
-  pub wide : 16 ≤ room o
-  pub under : o.height ≤ h.count
+-- what is left to do: each step opens at most one decision, and each turn takes a step or closes a decision
+abbrev pub remaining : Exploration → ℕ
+remaining x = (x.limit - x.tally.steps) + ((x.limit - x.tally.steps) + x.decisions.height)
 
--- what the search comes to from where the code stands: its plan, its open decisions, its saved entries, its sets, its outcome and its ceiling
-abbrev pub outcome_from : Given → Prune → ℕ → ℕ → List ℕ → Stack Decision → Stack Saved → List ℕ → Outcome → CeilingGuard → State
-outcome_from g f limit n plan o s ds c z = goes g f limit n plan (held o) (held s) ds (state n c (ceiling_of z))
+-- the state in which the search stands, stopped or not, under the ceiling z
+abbrev pub state_at : Bool → ℤ → Exploration → State
+state_at b z x = state x.trail.sheet.count b x.tally z
+
+-- what the search comes to from where it stands
+abbrev pub outcome_from : Charge → Prune → Bool → ℤ → Exploration → State
+outcome_from w f b z x = goes (given x.trail.sheet w) f x.limit x.trail.sheet.count x.plan (held x.decisions) (held x.trail.saved) x.trail.sheet.sets (state_at b z x)
+
+-- the same where the visit of the part-plan comes first, after which the trail goes back down to the mark m
+abbrev pub visited_from : Charge → Prune → ℕ → ℤ → Exploration → State
+visited_from w f m z x =
+    goes (given x.trail.sheet w) f x.limit x.trail.sheet.count x.plan (held x.decisions) (saved_at m x.trail) (sets_at m x.trail)
+    (visit (given x.trail.sheet w) f x.limit (x.trail.sheet.count - x.decisions.height) (take x.decisions.height x.plan) (sets_in x.trail.sheet) (state_at false z x))

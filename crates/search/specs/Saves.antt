@@ -1,7 +1,7 @@
 -- Saved sets: what putting them back gives, and why there is always a place for one more. Assumes nothing.
 use Rattle.std.specs.Prelude.{◌≡◌, ℕ, suc, ◌+◌, ◌<◌, ◌≤◌, cond, ◌⊎◌, List, [], ◌∷◌, length, count_ones, nat_lt, slice_set}
-use Rattle.stack.specs.declared.Stack.{Stack}
-use Rattle.stack.specs.Entries.{held, room}
+use Rattle.std.specs.Coded.{×_prop}
+use Rattle.std.proofs.Props.{props}
 use Rattle.planning.specs.Invariants.{Open}
 use Rattle.search.specs.declared.saving.Saved.{Saved}
 
@@ -30,19 +30,14 @@ abbrev pub Through : ℕ → List Saved → List ℕ → Type 0
 Through opened [] ds = Level opened 0 ds
 Through opened (e ∷ es) ds = Level opened (suc (length es)) ds × Through opened es (slice_set ds e.row e.slots)
 
+level_prop : (opened h : ℕ) (ds : List ℕ) → IsProp (Level opened h ds)
+level_prop opened h ds = Prim.hlevel props
+
+-- it can be shown in one way only
+pub through_prop : (opened : ℕ) (es : List Saved) (ds : List ℕ) → IsProp (Through opened es ds)
+through_prop opened [] ds = level_prop opened 0 ds
+through_prop opened (e ∷ es) ds = ×_prop (level_prop opened (suc (length es)) ds) (through_prop opened es (slice_set ds e.row e.slots))
+
 -- a set is as it was or has fewer slots
 abbrev pub Fewer : ℕ → ℕ → Type 0
 Fewer a b = (a ≡ b) ⊎ (count_ones a < count_ones b)
-
--- what every part of the search keeps of the saved entries s and the sets ds
-pub record Sound (opened : ℕ) (s : Stack Saved) (ds : List ℕ) : Type 0 where
-  pub low : s.height ≤ room s
-  pub wide : 1024 ≤ room s
-  pub through : Through opened (held s) ds
-  pub sixteen : length ds ≡ 16
-
--- the later entries t and sets es go back to the earlier ones: down to any height of s they come to the same
-pub record Since (s : Stack Saved) (ds : List ℕ) (t : Stack Saved) (es : List ℕ) : Type 0 where
-  pub higher : s.height ≤ t.height
-  pub sets : (m : ℕ) → m ≤ s.height → undone m (held t) es ≡ undone m (held s) ds
-  pub saved : (m : ℕ) → m ≤ s.height → kept m (held t) ≡ kept m (held s)

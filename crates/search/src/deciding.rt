@@ -10,13 +10,15 @@ pub struct Decision {
     pub next: usize,
 }
 
-// The decision once a slot is tried.
-pub(crate) fn tried(decision: Decision, slot: usize) -> Decision
-    requires { slot < 64 }
-    ensures { result ≡ after_slot decision slot }
-{
-    Decision {
-        mark: decision.mark,
-        next: slot + 1,
+impl Decision {
+    // The decision once a slot is tried.
+    pub(crate) fn tried(self, slot: usize) -> Decision
+        requires { slot < 64 }
+        ensures { result ≡ after_slot self slot }
+    {
+        Decision {
+            mark: self.mark,
+            next: slot + 1,
+        }
     }
 }

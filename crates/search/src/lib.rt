@@ -4,14 +4,17 @@
 
 mod choosing;
 mod deciding;
+mod entries;
+mod exploration;
 mod exploring;
 mod outcome;
 mod saving;
+mod tally;
 mod totals;
-mod visiting;
+mod trail;
 
 pub use deciding::Decision;
 pub use exploring::explore;
 pub use outcome::Outcome;
 pub use saving::Saved;
-pub use totals::{plan_total, price_of};
+pub use totals::{plan_total, price_of, slot_charge};
