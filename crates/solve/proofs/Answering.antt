@@ -1,5 +1,5 @@
 -- What the written search comes to makes the answer right. Assumes nothing.
-use Rattle.std.proofs.Common.{◌≡◌, ℕ, Bool, true, false, List, length, take, ℤ, Some, None, Ok, Err, Option, Result, sym, refl, ap, ◌∙◌, subst, arith}
+use Rattle.std.proofs.Common.{◌≡◌, ℕ, Bool, true, false, List, length, take, ℤ, Some, None, Err, Option, Result, sym, refl, ap, ◌∙◌, subst}
 use Rattle.std.specs.Option.{option_map}
 use Rattle.std.proofs.lemmas.Bool.{both_ways}
 use Rattle.refusal.specs.declared.Refusal.{Refusal}
@@ -14,21 +14,11 @@ use Rattle.search_rules.specs.Search.{State, searched}
 use Rattle.search_rules.specs.Right.{Counted, Right}
 use Rattle.search_rules.proofs.Solved.{betterings_counted, search_right}
 use Rattle.solve.specs.declared.answer.Answer.{Answer}
-use Rattle.solve.specs.declared.answer.Answer.TheVariants.{Cheapest, Stopped}
 use Rattle.solve.specs.declared.answer.Best.{Best}
 use Rattle.solve.specs.declared.line.Line.{Line}
 use Rattle.solve.specs.Lines.{written}
 use Rattle.solve.specs.Solved.{Request, answered, best_of, cases_of, finished, given_of, checked, listed, plan_after, plan_by, search_of, solved, solved_by, unless}
 use Rattle.solve.specs.Right.{RightAnswer, RightSolve, Shows, Untouched, ever_cheaper}
-
-clash : {X : Type 0} → ◌≡◌ {A = ℕ} 0 1 → X
-clash e = absurd (omega arith)
-
-same_stopped : (b b' : Best) → ◌≡◌ {A = Result Answer Refusal} (Ok (Stopped b)) (Ok (Stopped b')) → b ≡ b'
-same_stopped b b' e = cc
-
-same_cheapest : (b b' : Best) → ◌≡◌ {A = Result Answer Refusal} (Ok (Cheapest b)) (Ok (Cheapest b')) → b ≡ b'
-same_cheapest b b' e = cc
 
 module _ (s : Contents) (w : Charge) (limit : ℕ) (c : ℤ) (before : List Line) where
   abbrev g : Given
@@ -51,36 +41,36 @@ module _ (s : Contents) (w : Charge) (limit : ℕ) (c : ℤ) (before : List Line
       go : (o : Option (List ℕ)) (b : Bool) → t.best ≡ o → t.stopped ≡ b
           → RightAnswer s w limit c before (listed g (rows_of s) (cases_of s) o before) (answered g o b t.steps t.betterings)
       go None true e x = record {
-        cheapest = λ b q. clash (cc);
-        stopped = λ b q. clash (cc);
+        cheapest = λ b q. cc;
+        stopped = λ b q. cc;
         empty = λ n q. refl;
-        no_plan = λ n q. clash (cc);
-        refuses = λ q none. clash (cc);
+        no_plan = λ n q. cc;
+        refuses = λ q none. cc;
         ends = λ h. absurd (both_ways t.stopped (r.ends h) x);
       }
       go None false e x = record {
-        cheapest = λ b q. clash (cc);
-        stopped = λ b q. clash (cc);
-        empty = λ n q. clash (cc);
+        cheapest = λ b q. cc;
+        stopped = λ b q. cc;
+        empty = λ n q. cc;
         no_plan = λ n q. (r.none x e, refl);
         refuses = λ q none. (t.steps, refl);
         ends = λ h. refl;
       }
       go (Some p) true e x = record {
-        cheapest = λ b q. clash (cc);
-        stopped = λ b q. (p, shows p e b (same_stopped (best_of (total g p) t.steps t.betterings) b q));
-        empty = λ n q. clash (cc);
-        no_plan = λ n q. clash (cc);
-        refuses = λ q none. clash (cc);
+        cheapest = λ b q. cc;
+        stopped = λ b q. (p, shows p e b (cc));
+        empty = λ n q. cc;
+        no_plan = λ n q. cc;
+        refuses = λ q none. cc;
         ends = λ h. absurd (both_ways t.stopped (r.ends h) x);
       }
       go (Some p) false e x = record {
         cheapest = λ b q.
-            let same : best_of (total g p) t.steps t.betterings ≡ b = same_cheapest (best_of (total g p) t.steps t.betterings) b q in
+            let same : best_of (total g p) t.steps t.betterings ≡ b = cc in
             (p, shows p e b same, r.cheapest x p e, subst (λ (y : Best). y.betterings ≡ length (ever_cheaper s w c)) same (k.all_met x));
-        stopped = λ b q. clash (cc);
-        empty = λ n q. clash (cc);
-        no_plan = λ n q. clash (cc);
+        stopped = λ b q. cc;
+        empty = λ n q. cc;
+        no_plan = λ n q. cc;
         refuses = λ q none. absurd (none p (r.within p e).0 (r.within p e).1);
         ends = λ h. refl;
       }
@@ -132,4 +122,4 @@ untouched_same (Some e) xs = refl
 
 pub untouched_passed : {X : Type 0} (o : Option Refusal) (xs ys : List X) → o ≡ None → Untouched o xs ys
 untouched_passed None xs ys h = tt
-untouched_passed (Some e) xs ys h = clash (cc)
+untouched_passed (Some e) xs ys h = cc

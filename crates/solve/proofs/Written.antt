@@ -1,7 +1,7 @@
 -- Lines that are written one by one. Assumes nothing.
-use Rattle.std.proofs.Common.{◌≡◌, ℕ, zero, suc, ◌+◌, ◌<◌, ◌≤◌, List, [], ◌∷◌, ◌++◌, length, get_or, take, drop, set, sym, refl, ap, ◌∙◌, append_assoc, add-one, arith}
-use Rattle.std.proofs.lemmas.List.{drop_more, set_at, get_or-take}
-use Rattle.planning.specs.Plans.{Given, at_slot}
+use Rattle.std.proofs.Common.{◌≡◌, ℕ, zero, suc, ◌+◌, ◌<◌, List, [], ◌∷◌, ◌++◌, length, get_or, drop, set, sym, refl, ap, ◌∙◌, append_assoc, add-one, arith}
+use Rattle.std.proofs.lemmas.List.{drop_more, set_at}
+use Rattle.planning.specs.Plans.{Given}
 use Rattle.solve.specs.declared.line.Line.{Line}
 use Rattle.solve.specs.Lines.{line_at, lines_from, written}
 
@@ -25,14 +25,3 @@ line_more g rows p k list now_list v l e q =
     ∙ sym (append_assoc before (line_at g rows p k ∷ []) (drop (k + 1) list))
     ∙ ap (λ ls. ls ++ drop (k + 1) list) (sym (one_more g rows p 0 k k (omega arith)))
     ∙ ap (λ n. lines_from g rows p 0 n ++ drop (k + 1) list) (sym (add-one k))
-
--- only the first places of rows and plan matter
-lines_of_first : (g : Given) (rows p : List ℕ) (m k n : ℕ) → k + n ≤ m → lines_from g (take m rows) (take m p) k n ≡ lines_from g rows p k n
-lines_of_first g rows p m k zero l = refl
-lines_of_first g rows p m k (suc n) l =
-    ap (λ (x : ℕ). record { row = x; slot = get_or (take m p) k 0; charge = at_slot g (get_or g.needs k 0) (get_or (take m p) k 0) } ∷ lines_from g (take m rows) (take m p) (suc k) n) (get_or-take m rows k 0 (omega arith))
-    ∙ ap (λ (x : ℕ). record { row = get_or rows k 0; slot = x; charge = at_slot g (get_or g.needs k 0) x } ∷ lines_from g (take m rows) (take m p) (suc k) n) (get_or-take m p k 0 (omega arith))
-    ∙ ap (λ ls. line_at g rows p k ∷ ls) (lines_of_first g rows p m (suc k) n (omega arith))
-
-pub written_first : (g : Given) (rows p : List ℕ) (n : ℕ) (list : List Line) → written g (take n rows) (take n p) n list ≡ written g rows p n list
-written_first g rows p n list = ap (λ ls. ls ++ drop n list) (lines_of_first g rows p n 0 n (omega arith))

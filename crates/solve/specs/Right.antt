@@ -12,6 +12,7 @@ use Rattle.solve.specs.declared.answer.Answer.{Answer}
 use Rattle.solve.specs.declared.answer.Answer.TheVariants.{Cheapest, Stopped, StoppedEmpty}
 use Rattle.solve.specs.declared.answer.Best.{Best}
 use Rattle.solve.specs.declared.line.Line.{Line}
+use Rattle.solve.specs.declared.lists.Lists.{Lists}
 use Rattle.solve.specs.Lines.{written}
 use Rattle.solve.specs.Solved.{Request, cases_of, given_of, opening, plan_after, solved}
 
@@ -92,3 +93,9 @@ Untouched (Some e) before after = after ≡ before
 pub record ListsKept {X Y : Type 0} (o : Option Refusal) (saved saved' : List X) (decisions decisions' : List Y) : Type 0 where
   pub saved_kept : Untouched o saved saved'
   pub decisions_kept : Untouched o decisions decisions'
+
+-- the same three lists are lent
+pub record SameLists (a b : Lists) : Type 0 where
+  pub plan : b.plan.ghost_name ≡ a.plan.ghost_name
+  pub saved : b.saved.ghost_name ≡ a.saved.ghost_name
+  pub decisions : b.decisions.ghost_name ≡ a.decisions.ghost_name

@@ -37,6 +37,11 @@ checked n q =
     (cond (q.limit == 0 || nat_lt 1000000000 q.limit) (Some LimitRange)
     (cond (int_lt q.ceiling (neg_ℤ (pos 1000000000000000)) || int_lt (pos 1000000000000000) q.ceiling) (Some CeilingRange) None))))
 
+-- what the opening checks answer, by the first that hits
+abbrev pub passed_or : Option Refusal → Result (Unit {0}) Refusal
+passed_or None = Ok tt
+passed_or (Some e) = Err e
+
 -- how many cases stand
 abbrev pub cases_of : Contents → ℕ
 cases_of s = length (rows_of s)

@@ -1,24 +1,25 @@
 // One solve of a sheet.
 #![tactic(auto)]
 
-ghost use Rattle.std.specs.Prelude.{◌≡◌, length, take};
+ghost use Rattle.std.specs.Prelude.{◌≡◌, length};
 ghost use Rattle.sheet.specs.Contents.{contents};
-ghost use Rattle.planning.specs.Working.{given, sets_in};
-ghost use Rattle.solve.specs.Solved.{request, checked, opening, solved_by, plan_by};
-ghost use Rattle.solve.specs.Right.{ListsKept, Solves};
+ghost use Rattle.solve.specs.Solved.{request, opening};
+ghost use Rattle.solve.specs.Right.{ListsKept, SameLists, Solves};
 
 mod answer;
 mod line;
+mod lists;
 mod opening;
 mod writing;
 
 pub use answer::{Answer, Best};
 use ceiling::Ceiling;
 pub use line::Line;
-use opening::opening_refusal;
+pub use lists::Lists;
+use opening::check_opening;
 use planning::{Pruner, WorkingSheet};
 use refusal::Refusal;
-use search::{Decision, Saved, explore};
+use search::explore;
 use sheet::Sheet;
 use tariff::Tariff;
 use writing::finish;
@@ -31,48 +32,25 @@ pub fn solve<T: Tariff, P: Pruner>(
     pruner: &P,
     ceiling: &mut Ceiling,
     limit: u64,
-    plan: &mut [Line],
-    saved: &mut [Saved],
-    decisions: &mut [Decision],
+    lists: &mut Lists,
 ) -> Result<Answer, Refusal>
-    ensures solves { Solves (contents sheet.now) (request (T.Tariff.charges tariff.now) (P.Pruner.prunes pruner.now) ceiling.old.value limit (length plan.old) (length saved.old) (length decisions.old)) plan.old plan.new result }
+    ensures solves { Solves (contents sheet.now) (request (T.Tariff.charges tariff.now) (P.Pruner.prunes pruner.now) ceiling.old.value limit (length lists.old.plan.now) (length lists.old.saved.now) (length lists.old.decisions.now)) lists.old.plan.now lists.new.plan.now result }
     ensures ceiling { ceiling.new ≡ ceiling.old }
-    ensures lists { ListsKept (opening (contents sheet.now) (request (T.Tariff.charges tariff.now) (P.Pruner.prunes pruner.now) ceiling.old.value limit (length plan.old) (length saved.old) (length decisions.old))) saved.old saved.new decisions.old decisions.new }
+    ensures lists { ListsKept (opening (contents sheet.now) (request (T.Tariff.charges tariff.now) (P.Pruner.prunes pruner.now) ceiling.old.value limit (length lists.old.plan.now) (length lists.old.saved.now) (length lists.old.decisions.now))) lists.old.saved.now lists.new.saved.now lists.old.decisions.now lists.new.decisions.now }
+    ensures lent { SameLists lists.old lists.new }
 {
     let work = WorkingSheet::new(sheet);
-    solve_work(
-        &work, tariff, pruner, ceiling, limit, plan, saved, decisions,
-    )
-}
-
-// The same of a working sheet.
-fn solve_work<T: Tariff, P: Pruner>(
-    work: &WorkingSheet,
-    tariff: &T,
-    pruner: &P,
-    ceiling: &mut Ceiling,
-    limit: u64,
-    plan: &mut [Line],
-    saved: &mut [Saved],
-    decisions: &mut [Decision],
-) -> Result<Answer, Refusal>
-    ensures said { result ≡ solved_by (given work.now (T.Tariff.charges tariff.now)) (sets_in work.now) work.now.count (request (T.Tariff.charges tariff.now) (P.Pruner.prunes pruner.now) ceiling.old.value limit (length plan.old) (length saved.old) (length decisions.old)) }
-    ensures plan { plan.new ≡ plan_by (given work.now (T.Tariff.charges tariff.now)) (take work.now.count work.now.rows) (sets_in work.now) work.now.count (request (T.Tariff.charges tariff.now) (P.Pruner.prunes pruner.now) ceiling.old.value limit (length plan.old) (length saved.old) (length decisions.old)) plan.old }
-    ensures ceiling { ceiling.new ≡ ceiling.old }
-    ensures lists { ListsKept (checked work.now.count (request (T.Tariff.charges tariff.now) (P.Pruner.prunes pruner.now) ceiling.old.value limit (length plan.old) (length saved.old) (length decisions.old))) saved.old saved.new decisions.old decisions.new }
-{
-    if let Some(refusal) = opening_refusal(
-        work.count,
-        plan.len(),
-        saved.len(),
-        decisions.len(),
-        limit,
+    check_opening(work.count, lists, limit, ceiling)?;
+    let Some(outcome) = explore(
+        pruner,
+        tariff,
         ceiling,
-    ) {
-        return Err(refusal);
-    }
-    let Some(outcome) = explore(pruner, tariff, ceiling, limit, work, saved, decisions) else {
+        limit,
+        &work,
+        lists.saved,
+        lists.decisions,
+    ) else {
         unreachable()
     };
-    finish(tariff, work, &outcome, plan)
+    finish(tariff, &work, &outcome, lists.plan)
 }

@@ -1,37 +1,36 @@
-ghost use Rattle.std.specs.Prelude.{◌≡◌};
+ghost use Rattle.std.specs.Prelude.{◌≡◌, length};
 ghost use Rattle.planning.specs.Pruners.{Prune};
 ghost use Rattle.tariff.specs.Charges.{Charge};
-ghost use Rattle.solve.specs.Solved.{request, checked};
+ghost use Rattle.solve.specs.Solved.{request, checked, passed_or};
 
+use crate::lists::Lists;
 use ceiling::Ceiling;
 use refusal::Refusal;
 
-// Why a solve of so many standing cases is refused at once, if it is: the first check that hits. The tariff and the pruner
+// The opening checks of a solve of so many standing cases: the first that hits refuses it. The tariff and the pruner
 // have no part in it.
-pub(crate) fn opening_refusal(
+pub(crate) fn check_opening(
     cases: usize,
-    lines: usize,
-    saved: usize,
-    decisions: usize,
+    lists: &Lists,
     limit: u64,
     ceiling: &Ceiling,
-) -> Option<Refusal>
-    ensures { (w : Charge) (f : Prune) → result ≡ checked cases (request w f ceiling.now.value limit lines saved decisions) }
+) -> Result<(), Refusal>
+    ensures { (w : Charge) (f : Prune) → result ≡ passed_or (checked cases (request w f ceiling.now.value limit (length lists.now.plan.now) (length lists.now.saved.now) (length lists.now.decisions.now))) }
 {
-    if lines < cases {
-        return Some(Refusal::PlanListShort);
+    if lists.plan.len() < cases {
+        return Err(Refusal::PlanListShort);
     }
-    if saved < 1024 {
-        return Some(Refusal::SavedListShort);
+    if lists.saved.len() < 1024 {
+        return Err(Refusal::SavedListShort);
     }
-    if decisions < 16 {
-        return Some(Refusal::DecisionListShort);
+    if lists.decisions.len() < 16 {
+        return Err(Refusal::DecisionListShort);
     }
     if limit == 0 || limit > 1_000_000_000 {
-        return Some(Refusal::LimitRange);
+        return Err(Refusal::LimitRange);
     }
     if ceiling.value < -1_000_000_000_000_000 || ceiling.value > 1_000_000_000_000_000 {
-        return Some(Refusal::CeilingRange);
+        return Err(Refusal::CeilingRange);
     }
-    None
+    Ok(())
 }
