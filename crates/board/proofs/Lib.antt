@@ -1,3 +1,2 @@
-mod Latest
 mod Remembering
 mod Telling

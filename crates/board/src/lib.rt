@@ -3,11 +3,12 @@
 // whatever calls left the board as it is at entry, those and this call leave it as it is at exit.
 #![tactic(auto)]
 
-mod journal;
+mod calls;
 mod log;
 mod settled;
 mod trial;
 
+pub use calls::Calls;
 pub use log::{Board, Call, Reply};
 pub use settled::Settled;
 pub use trial::Trial;

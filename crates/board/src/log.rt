@@ -1,15 +1,16 @@
 // A board in either phase, one call of its log, and the replay of a whole log.
-ghost use Rattle.std.specs.Prelude.{◌≡◌, Option as Maybe};
+ghost use Rattle.std.specs.Prelude.{◌≡◌};
 ghost use Rattle.board.specs.declared.log.Board.TheVariants.{Settled as BoardSettled, Trial as BoardTrial};
-ghost use Rattle.board.specs.Past.{Phase.Outside, Phase.Inside, Past.New, Taken.Reverts, called};
+ghost use Rattle.board.specs.Past.{Past.New, Taken.Reverts, called};
 ghost use Rattle.sheet.specs.Edits.{answer};
-ghost use Rattle.board.specs.Log.{Story, stands, story, ends, told, history, said, outcome, owed, owed_in, performed, performed_in};
+ghost use Rattle.board.specs.Log.{Story, stands, story, ends, told, history, said, outcome, owed, performed};
 ghost use Rattle.board.specs.Views.{settled_view, trial_view};
 
+use crate::calls::Calls;
 use crate::settled::Settled;
 use crate::trial::Trial;
 use refusal::Refusal;
-use sheet::{Case, Edit, SlotPrice};
+use sheet::{Case, Edit, Sheet, SlotPrice};
 
 // One call of a past, with its arguments as a caller wrote them.
 #[derive(Clone, Copy, PartialEq, Eq, Debug)]
@@ -40,6 +41,18 @@ pub enum Reply {
     NotTaken,
 }
 
+// What a call that can be refused returned, as a reply.
+impl From<Result<(), Refusal>> for Reply {
+    ghost from_gives = { λ returned reply. (q : _) → returned ≡ answer q → said reply ≡ outcome q };
+
+    fn from(returned: Result<(), Refusal>) -> Reply {
+        match returned {
+            Ok(()) => Reply::Done,
+            Err(refusal) => Reply::Refused(refusal),
+        }
+    }
+}
+
 // A board in either phase.
 pub enum Board {
     Settled(Settled),
@@ -47,6 +60,7 @@ pub enum Board {
 }
 
 impl Board {
+    // A new board, which is settled.
     pub fn new() -> Board
         ensures { stands result ≡ ends (story New) }
     {
@@ -54,14 +68,33 @@ impl Board {
     }
 
     // Performs one call of a past, and answers it.
+    #[tactic(auto, using(crate::proofs::Telling::told_stands))]
     pub fn perform(self, call: Call) -> (Board, Reply)
         ensures said { said result.1 ≡ owed (stands self) call }
         ensures left { stands result.0 ≡ performed (stands self) call }
         ensures past { (st : Story) → ends st ≡ stands self → ends (told st call) ≡ stands result.0 }
     {
-        match self {
-            Board::Settled(settled) => perform_settled(settled, call),
-            Board::Trial(trial) => perform_trial(trial, call),
+        match (self, call) {
+            (mut board, Call::Make(edit)) => {
+                let reply = board.edit(edit).into();
+                (board, reply)
+            }
+            (board, Call::AskCase(row)) => {
+                let reply = Reply::Case(board.case(row));
+                (board, reply)
+            }
+            (board, Call::AskPrice(slot)) => {
+                let reply = Reply::Price(board.price_of(slot));
+                (board, reply)
+            }
+            (Board::Settled(settled), Call::Begin) => (Board::Trial(settled.begin()), Reply::Begun),
+            (Board::Trial(trial), Call::Keep) => (Board::Settled(trial.keep()), Reply::Ended),
+            (Board::Trial(trial), Call::Revert) => (Board::Settled(trial.revert()), Reply::Ended),
+            (Board::Trial(mut trial), Call::TakeBack) => {
+                let reply = trial.take_back().into();
+                (Board::Trial(trial), reply)
+            }
+            (board, _) => (board, Reply::NotTaken),
         }
     }
 
@@ -79,50 +112,28 @@ impl Board {
     pub fn replay(calls: &[Call]) -> Board
         ensures { stands result ≡ ends (history calls.now) }
     {
-        let mut board = Board::new();
-        for call in calls {
-            let (next, _) = board.perform(*call);
-            board = next;
-        }
-        board
+        calls
+            .iter()
+            .fold(Board::new(), |board, call| board.perform(*call).0)
     }
 }
 
-fn perform_settled(mut settled: Settled, call: Call) -> (Board, Reply)
-    ensures said { said result.1 ≡ owed_in Outside (settled_view settled) call }
-    ensures left { stands result.0 ≡ performed_in Outside (settled_view settled) call }
-{
-    let reply = match call {
-        Call::Make(edit) => reply_to(settled.edit(edit)),
-        Call::AskCase(row) => Reply::Case(settled.case(row)),
-        Call::AskPrice(slot) => Reply::Price(settled.price_of(slot)),
-        Call::Begin => return (Board::Trial(settled.begin()), Reply::Begun),
-        Call::Keep | Call::Revert | Call::TakeBack => Reply::NotTaken,
-    };
-    (Board::Settled(settled), reply)
-}
+impl Calls for Board {
+    ghost phase = { λ b. (stands b).phase };
 
-fn perform_trial(mut trial: Trial, call: Call) -> (Board, Reply)
-    ensures said { said result.1 ≡ owed_in Inside (trial_view trial) call }
-    ensures left { stands result.0 ≡ performed_in Inside (trial_view trial) call }
-{
-    let reply = match call {
-        Call::Make(edit) => reply_to(trial.edit(edit)),
-        Call::AskCase(row) => Reply::Case(trial.case(row)),
-        Call::AskPrice(slot) => Reply::Price(trial.price_of(slot)),
-        Call::TakeBack => reply_to(trial.take_back()),
-        Call::Begin => Reply::NotTaken,
-        Call::Keep => return (Board::Settled(trial.keep()), Reply::Ended),
-        Call::Revert => return (Board::Settled(trial.revert()), Reply::Ended),
-    };
-    (Board::Trial(trial), reply)
-}
+    ghost view = { λ b. (stands b).left };
 
-fn reply_to(returned: Result<(), Refusal>) -> Reply
-    ensures { (q : Maybe Refusal) → returned ≡ answer q → said result ≡ outcome q }
-{
-    match returned {
-        Ok(()) => Reply::Done,
-        Err(refusal) => Reply::Refused(refusal),
+    fn edit(&mut self, edit: Edit) -> Result<(), Refusal> {
+        match self {
+            Board::Settled(settled) => settled.edit(edit),
+            Board::Trial(trial) => trial.edit(edit),
+        }
+    }
+
+    fn sheet(&self) -> &Sheet {
+        match self {
+            Board::Settled(settled) => settled.sheet(),
+            Board::Trial(trial) => trial.sheet(),
+        }
     }
 }

@@ -1,17 +1,11 @@
-use Rattle.std.proofs.Common.{take, sym, ap, ◌∙◌, arith}
-use Rattle.std.proofs.lemmas.List.{take_all}
-use Rattle.std.proofs.lemmas.List.Sums.{fold_more}
+use Rattle.std.proofs.Common.{◌≡◌, ◌∷◌, [], subst, rules}
+use Rattle.std.proofs.lemmas.Fn.{fold_over, slice_gives, fronts}
+use Rattle.std.proofs.lemmas.List.Sums.{fold-append}
 use Rattle.board.specs.Past.{Past.New}
-use Rattle.board.specs.Log.{story, ends, told, history}
+use Rattle.board.specs.Log.{stands, story, ends, told, history}
 use Rattle.board.proofs.log.Board.replay.Goals as goal
 
-pub loop-call-preserved : goal.loop-call-preserved
-loop-call-preserved c =
-    let i = c.loop-call.call-index in
-    let calls = c.args.calls.now in
-    sym (ap ends (fold_more told (story New) calls i _ c.loop-call-test.true) ∙ c.perform-next.ensures.past (history (take i calls)) (sym c.loop-call.invariant))
-
 pub returns : goal.returns
-returns c =
-    let calls = c.args.calls.now in
-    c.loop-call.invariant ∙ ap (λ cs. ends (history cs)) (take_all c.loop-call.call-index calls (omega arith))
+returns c = subst (λ calls. stands c.fold.result ≡ ends (history calls)) c.iter.ensures.rest
+    (fold_over fronts (λ x. x.now) _ (λ calls board. stands board ≡ ends (history calls)) _ (λ calls a x b f' j k. let more = fold-append told (story New) calls (x.now ∷ []) in search rules)
+    _ _ _ _ (slice_gives c.iter.result) (search rules) c.fold.ensures.ran)
