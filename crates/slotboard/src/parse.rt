@@ -3,20 +3,15 @@ use crate::fault::Fault;
 use crate::slots::parse_slots;
 use board::Call;
 use sheet::Edit;
-use std::str::{SplitWhitespace, from_utf8};
+use std::str::{FromStr, SplitWhitespace, from_utf8};
 
 // The call of a line, or nothing for a line that is passed over.
 pub(crate) fn parse_line(line: &[u8]) -> Result<Option<Call>, Fault<'_>> {
-    let Ok(text) = from_utf8(line) else {
-        return Err(Fault::NotText);
-    };
+    let text = from_utf8(line).map_err(|_| Fault::NotText)?;
     let mut words = text.split_whitespace();
-    let Some(name) = words.next() else {
+    let Some(name) = words.next().filter(|word| !word.starts_with('#')) else {
         return Ok(None);
     };
-    if name.starts_with('#') {
-        return Ok(None);
-    }
     let call = parse_call(name, &mut words)?;
     match words.next() {
         Some(word) => Err(Fault::Extra(word)),
@@ -25,78 +20,77 @@ pub(crate) fn parse_line(line: &[u8]) -> Result<Option<Call>, Fault<'_>> {
 }
 
 fn parse_call<'a>(name: &'a str, words: &mut SplitWhitespace<'a>) -> Result<Call, Fault<'a>> {
-    match name {
-        "begin" => Ok(Call::Begin),
-        "keep" => Ok(Call::Keep),
-        "revert" => Ok(Call::Revert),
-        "back" => Ok(Call::TakeBack),
-        "case" => Ok(Call::AskCase(parse_index(words, "ROW")?)),
-        "cost" => Ok(Call::AskPrice(parse_index(words, "SLOT")?)),
-        _ => Ok(Call::Make(parse_edit(name, words)?)),
-    }
+    Ok(match name {
+        "begin" => Call::Begin,
+        "keep" => Call::Keep,
+        "revert" => Call::Revert,
+        "back" => Call::TakeBack,
+        "case" => Call::AskCase(parse_number(words, "ROW")?),
+        "cost" => Call::AskPrice(parse_number(words, "SLOT")?),
+        _ => Call::Make(parse_edit(name, words)?),
+    })
 }
 
 fn parse_edit<'a>(name: &'a str, words: &mut SplitWhitespace<'a>) -> Result<Edit, Fault<'a>> {
-    match name {
-        "enter" => {
-            let row = parse_index(words, "ROW")?;
-            let need = parse_need(words)?;
-            Ok(Edit::Enter(row, need, parse_set(words)?))
-        }
-        "withdraw" => Ok(Edit::Withdraw(parse_index(words, "ROW")?)),
-        "allow" => {
-            let row = parse_index(words, "ROW")?;
-            Ok(Edit::Allow(row, parse_set(words)?))
-        }
-        "price" => {
-            let slot = parse_index(words, "SLOT")?;
-            Ok(Edit::Price(slot, parse_price(words)?))
-        }
-        "close" => Ok(Edit::Close(parse_index(words, "SLOT")?)),
-        _ => Err(Fault::UnknownCall(name)),
-    }
+    Ok(match name {
+        "enter" => Edit::Enter(
+            parse_number(words, "ROW")?,
+            parse_number(words, "NEED")?,
+            parse_set(words)?,
+        ),
+        "withdraw" => Edit::Withdraw(parse_number(words, "ROW")?),
+        "allow" => Edit::Allow(parse_number(words, "ROW")?, parse_set(words)?),
+        "price" => Edit::Price(parse_number(words, "SLOT")?, parse_number(words, "PRICE")?),
+        "close" => Edit::Close(parse_number(words, "SLOT")?),
+        _ => return Err(Fault::UnknownCall(name)),
+    })
 }
 
 fn next_word<'a>(
     words: &mut SplitWhitespace<'a>,
     name: &'static str,
 ) -> Result<&'a str, Fault<'a>> {
-    match words.next() {
-        Some(word) => Ok(word),
-        None => Err(Fault::Missing(name)),
+    words.next().ok_or(Fault::Missing(name))
+}
+
+// A number as an argument of a call.
+trait Number: FromStr {
+    // What is wrong with a word that is no such number.
+    fn fault(word: &str) -> Fault<'_>;
+}
+
+impl Number for usize {
+    fn fault(word: &str) -> Fault<'_> {
+        Fault::Unsigned(word)
     }
 }
 
-fn parse_index<'a>(
+impl Number for u64 {
+    fn fault(word: &str) -> Fault<'_> {
+        Fault::Unsigned(word)
+    }
+}
+
+impl Number for i64 {
+    fn fault(word: &str) -> Fault<'_> {
+        Fault::Signed(word)
+    }
+}
+
+fn parse_number<'a, T: Number>(
     words: &mut SplitWhitespace<'a>,
     name: &'static str,
-) -> Result<usize, Fault<'a>> {
+) -> Result<T, Fault<'a>>
+where
+    T::Err: Drop,
+{
     let word = next_word(words, name)?;
-    match word.parse::<usize>() {
-        Ok(index) => Ok(index),
-        Err(_) => Err(Fault::Unsigned(word)),
-    }
-}
-
-fn parse_need<'a>(words: &mut SplitWhitespace<'a>) -> Result<u64, Fault<'a>> {
-    let word = next_word(words, "NEED")?;
-    match word.parse::<u64>() {
-        Ok(need) => Ok(need),
-        Err(_) => Err(Fault::Unsigned(word)),
-    }
-}
-
-fn parse_price<'a>(words: &mut SplitWhitespace<'a>) -> Result<i64, Fault<'a>> {
-    let word = next_word(words, "PRICE")?;
-    match word.parse::<i64>() {
-        Ok(price) => Ok(price),
-        Err(_) => Err(Fault::Signed(word)),
-    }
+    word.parse().map_err(|_| T::fault(word))
 }
 
 fn parse_set<'a>(words: &mut SplitWhitespace<'a>) -> Result<u64, Fault<'a>> {
     let word = next_word(words, "SLOTS")?;
-    Ok(parse_slots(word)?.word())
+    Ok(parse_slots(word)?.into())
 }
 
 #[cfg(test)]
@@ -104,24 +98,15 @@ mod tests {
     use super::*;
 
     fn reads(line: &[u8], call: Call) -> bool {
-        match parse_line(line) {
-            Ok(Some(read)) => read == call,
-            _ => false,
-        }
+        parse_line(line) == Ok(Some(call))
     }
 
     fn passes_over(line: &[u8]) -> bool {
-        match parse_line(line) {
-            Ok(None) => true,
-            _ => false,
-        }
+        parse_line(line) == Ok(None)
     }
 
     fn faults(line: &[u8], fault: Fault<'_>) -> bool {
-        match parse_line(line) {
-            Err(found) => found == fault,
-            _ => false,
-        }
+        parse_line(line) == Err(fault)
     }
 
     #[test]

@@ -2,49 +2,52 @@
 use crate::fault::Fault;
 use slot_set::SlotSet;
 use std::fmt;
+use std::ops::RangeInclusive;
 
 pub(crate) fn parse_slots(text: &str) -> Result<SlotSet, Fault<'_>> {
     match text {
-        "none" => return Ok(SlotSet::from_word(0)),
-        "all" => return Ok(SlotSet::from_word(u64::MAX)),
-        _ => {}
+        "none" => Ok(SlotSet::from(0)),
+        "all" => Ok(SlotSet::from(u64::MAX)),
+        _ => match text.strip_prefix("0x") {
+            Some(digits) => parse_word(text, digits),
+            None => parse_list(text),
+        },
     }
-    if let Some(digits) = text.strip_prefix("0x") {
-        return match u64::from_str_radix(digits, 16) {
-            Ok(word) if !digits.starts_with('+') => Ok(SlotSet::from_word(word)),
-            _ => Err(Fault::Word(text)),
-        };
+}
+
+// A set in hexadecimal digits, with no sign before them.
+fn parse_word<'a>(text: &'a str, digits: &str) -> Result<SlotSet, Fault<'a>> {
+    match u64::from_str_radix(digits, 16) {
+        Ok(word) if !digits.starts_with('+') => Ok(SlotSet::from(word)),
+        _ => Err(Fault::Word(text)),
     }
-    let mut set = SlotSet::from_word(0);
-    for part in text.split(',') {
-        let (first, last) = parse_range(text, part)?;
-        for slot in first..=last {
-            set = set.with(slot);
-        }
+}
+
+fn parse_list(list: &str) -> Result<SlotSet, Fault<'_>> {
+    let mut set = SlotSet::from(0);
+    for part in list.split(',') {
+        set = parse_range(list, part)?.fold(set, SlotSet::with);
     }
     Ok(set)
 }
 
 // One part of a list: a slot, or the first and the last of a range.
-fn parse_range<'a>(list: &'a str, part: &'a str) -> Result<(usize, usize), Fault<'a>> {
-    let Some((first, last)) = part.split_once('-') else {
-        let slot = parse_slot(list, part)?;
-        return Ok((slot, slot));
-    };
+fn parse_range<'a>(list: &'a str, part: &'a str) -> Result<RangeInclusive<usize>, Fault<'a>> {
+    let (first, last) = part.split_once('-').unwrap_or((part, part));
     let low = parse_slot(list, first)?;
     let high = parse_slot(list, last)?;
     if low > high {
         return Err(Fault::Backward(part));
     }
-    Ok((low, high))
+    Ok(low..=high)
 }
 
 fn parse_slot<'a>(list: &'a str, text: &'a str) -> Result<usize, Fault<'a>> {
-    match text.parse::<usize>() {
-        Ok(slot) if slot < 64 => Ok(slot),
-        Ok(_) => Err(Fault::NoSuchSlot(text)),
-        Err(_) => Err(Fault::SlotList(list)),
+    let slot = text.parse().map_err(|_| Fault::SlotList(list))?;
+    if slot >= 64 {
+        return Err(Fault::NoSuchSlot(text));
     }
+    Ok(slot)
 }
 
 // A set as it is printed: its slots rising, two or more neighbours as a range, `none` where it is empty.
@@ -57,32 +60,22 @@ impl fmt::Display for Slots {
         if set.is_empty() {
             return f.write_str("none");
         }
-        let mut later = false;
-        let mut first: Option<usize> = None;
-        // No set has slot 64, so that the last run ends in the loop too.
-        for slot in 0..65 {
-            match (first, set.contains(slot)) {
-                (None, true) => first = Some(slot),
-                (Some(low), false) => {
-                    if later {
-                        f.write_str(",")?;
-                    }
-                    write_run(f, low, slot.saturating_sub(1))?;
-                    later = true;
-                    first = None;
-                }
-                _ => {}
+        // The first and the last slot of each run of neighbours. No set has the slots before 0 and after 63.
+        let firsts = (0..64).filter(|slot| {
+            set.contains(*slot) && !set.contains(slot.wrapping_sub(1))
+        });
+        let lasts = (0..64).filter(|slot| set.contains(*slot) && !set.contains(*slot + 1));
+        for (index, (first, last)) in firsts.zip(lasts).enumerate() {
+            if index > 0 {
+                f.write_str(",")?;
+            }
+            write!(f, "{first}")?;
+            if first < last {
+                write!(f, "-{last}")?;
             }
         }
         Ok(())
     }
-}
-
-fn write_run<W: fmt::Write>(f: &mut fmt::Formatter<W>, low: usize, high: usize) -> fmt::Result {
-    if low == high {
-        return write!(f, "{low}");
-    }
-    write!(f, "{low}-{high}")
 }
 
 #[cfg(test)]
@@ -92,21 +85,15 @@ mod tests {
     use std::test::Fail;
 
     fn reads(text: &str, word: u64) -> bool {
-        match parse_slots(text) {
-            Ok(set) => set.word() == word,
-            Err(_) => false,
-        }
+        parse_slots(text) == Ok(SlotSet::from(word))
     }
 
     fn faults(text: &str, fault: Fault<'_>) -> bool {
-        match parse_slots(text) {
-            Ok(_) => false,
-            Err(found) => found == fault,
-        }
+        parse_slots(text) == Err(fault)
     }
 
     fn prints(heap: Global, word: u64, text: &str) -> Result<bool, AllocError> {
-        let printed = Slots(SlotSet::from_word(word)).to_string(heap)?;
+        let printed = Slots(SlotSet::from(word)).to_string(heap)?;
         Ok(printed.as_str() == text)
     }
 
