@@ -38,6 +38,7 @@ impl<'a, T: Copy> Stack<'a, T> {
     }
 
     // Takes the latest entry off, if there is one.
+    #[tactic(auto, using(crate::proofs::Laws::held_none))]
     pub fn pop(&mut self) -> Option<T>
         ensures popped { Popped result self.old self.new }
         ensures room { room self.new ≡ room self.old }
@@ -48,6 +49,7 @@ impl<'a, T: Copy> Stack<'a, T> {
         Some(self.take())
     }
 
+    #[tactic(auto, using(crate::proofs::Laws::push_entries))]
     fn put(&mut self, entry: T)
         requires { self.old.height < room self.old }
         ensures held { held self.new ≡ entry ∷ held self.old }
@@ -58,6 +60,7 @@ impl<'a, T: Copy> Stack<'a, T> {
         self.height += 1;
     }
 
+    #[tactic(auto, using(crate::proofs::Laws::pop_entries))]
     fn take(&mut self) -> T
         requires { 0 < self.old.height }
         ensures held { held self.old ≡ result ∷ held self.new }
