@@ -22,6 +22,9 @@ module _ (w : Charge) (greatest : ℕ) (law : LawfulTariff w greatest) where
       (λ e. subst (Within greatest) (sym (law.outside a p (λ n r. both_ways (in_ranges a p) e (in_yes a p n r)))) (record { low = omega (arith, ints); high = omega (arith, ints) }))
       (cases_Bool (in_ranges a p))
 
+  pub charge_small : (a : ℕ) (p : ℤ) → Within 1000000000000 (w a p)
+  charge_small a p = within_more greatest 1000000000000 (w a p) law.small (charge_within a p)
+
   each_within : (zs : List ℤ) → AllByRecursion (Charged w) zs → Within (length zs * greatest) (sum_all zs)
   each_within [] h = record { low = omega (arith, ints); high = omega (arith, ints) }
   each_within (z ∷ zs) ((a, p, e), h) =

@@ -16,6 +16,7 @@ pub use tariff::Tariff;
 
 // A theorem for all later sums: with every lawful tariff, a sum of charges is at most its greatest charge for each
 // from 0, and a sum of up to 16 at most 16 * 10^12, which fits an `i64`.
+#[tactic(auto, using(crate::proofs::Sums::sums_are_small))]
 pub fn sums_are_small()
     ensures { SumsAreSmall }
 {}

@@ -1,5 +1,5 @@
 use Rattle.tariff.proofs.Counterexample.{rounded_is_unlawful}
 use Rattle.tariff.proofs.rounding.rounding_is_unlawful.Goals as goal
 
-pub returns : goal.returns
-returns c = record { sums = c.exchanged_sums.ensures; unlawful = rounded_is_unlawful }
+pub returns-clause-unlawful : goal.returns-clause-unlawful
+returns-clause-unlawful c = rounded_is_unlawful
