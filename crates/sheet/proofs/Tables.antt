@@ -3,6 +3,9 @@ use Rattle.std.proofs.Common.{◌≡◌, ℕ, ◌<◌, ◌≤◌, cond, ltb, Lis
 use Rattle.std.specs.Option.{option_map}
 use Rattle.std.proofs.lemmas.List.{get_or-map, map-set, set-set, set-get_or, get_or-set_same, length-map}
 use Rattle.std.proofs.lemmas.Bool.{cond_above, cond-false, le-ltb}
+use Rattle.sheet.specs.declared.case.Case.{Case}
+use Rattle.sheet.specs.declared.slot_price.SlotPrice.{SlotPrice}
+use Rattle.sheet.specs.Contents.{entry, amount}
 
 pub some_mapped : {X Y : Type 0} (f : X → Y) (o : Option X) → is_some (option_map f o) ≡ is_some o
 some_mapped f None = refl
@@ -28,3 +31,21 @@ place_back ys n i e o low was =
     set-set ys i e o
     ∙ ap (set ys i) (was ∙ cond-false (ltb n i) None (get_or ys i None) (le-ltb n i low))
     ∙ set-get_or ys i None
+
+-- the same of a row and of a slot
+pub row_holds : (rows : List (Option Case)) (row : ℕ) (o : Option Case) → row ≤ 15 → row < length rows
+    → cond (ltb 15 row) None (get_or (map (option_map entry) (set rows row o)) row None) ≡ option_map entry o
+row_holds rows row o low h = place_written entry rows 15 row o low h
+
+pub slot_holds : (slots : List (Option SlotPrice)) (slot : ℕ) (o : Option SlotPrice) → slot ≤ 63 → slot < length slots
+    → cond (ltb 63 slot) None (get_or (map (option_map amount) (set slots slot o)) slot None) ≡ option_map amount o
+slot_holds slots slot o low h = place_written amount slots 63 slot o low h
+
+-- what the writes and the undoing of a sheet rest on
+pub ruleset row_written = (map-set, row_holds)
+
+pub ruleset slot_written = (map-set, slot_holds)
+
+pub ruleset table_written = (map-set)
+
+pub ruleset put_back = (place_back, cond-false, le-ltb)

@@ -85,6 +85,7 @@ impl Sheet {
     }
 
     // Puts a case into an empty row.
+    #[tactic(auto, using(crate::proofs::Tables::row_written))]
     pub fn enter(&mut self, row: usize, need: u64, allowed: u64) -> Result<(), Refusal>
         ensures said { result ≡ answer (refusal_of (Enter row need allowed) (contents self.old)) }
         ensures left { contents self.new ≡ after (refusal_of (Enter row need allowed) (contents self.old)) (Enter row need allowed) (contents self.old) }
@@ -97,11 +98,12 @@ impl Sheet {
             return Err(Refusal::RowTaken);
         }
         let case = Case::new(need, allowed)?;
-        self.put_case(row, Some(case));
+        self.rows[row] = Some(case);
         Ok(())
     }
 
     // Empties a row.
+    #[tactic(auto, using(crate::proofs::Tables::row_written))]
     pub fn withdraw(&mut self, row: usize) -> Result<(), Refusal>
         ensures said { result ≡ answer (refusal_of (Withdraw row) (contents self.old)) }
         ensures left { contents self.new ≡ after (refusal_of (Withdraw row) (contents self.old)) (Withdraw row) (contents self.old) }
@@ -113,7 +115,7 @@ impl Sheet {
         if self.case(row).is_none() {
             return Err(Refusal::RowEmpty);
         }
-        self.put_case(row, None);
+        self.rows[row] = None;
         Ok(())
     }
 
@@ -133,6 +135,7 @@ impl Sheet {
     }
 
     // Opens a slot, or changes its price.
+    #[tactic(auto, using(crate::proofs::Tables::slot_written))]
     pub fn price(&mut self, slot: usize, price: i64) -> Result<(), Refusal>
         ensures said { result ≡ answer (refusal_of (Price slot price) (contents self.old)) }
         ensures left { contents self.new ≡ after (refusal_of (Price slot price) (contents self.old)) (Price slot price) (contents self.old) }
@@ -142,11 +145,12 @@ impl Sheet {
             return Err(Refusal::SlotRange);
         }
         let price = SlotPrice::try_from(price)?;
-        self.put_price(slot, Some(price));
+        self.slots[slot] = Some(price);
         Ok(())
     }
 
     // Closes an open slot.
+    #[tactic(auto, using(crate::proofs::Tables::slot_written))]
     pub fn close(&mut self, slot: usize) -> Result<(), Refusal>
         ensures said { result ≡ answer (refusal_of (Close slot) (contents self.old)) }
         ensures left { contents self.new ≡ after (refusal_of (Close slot) (contents self.old)) (Close slot) (contents self.old) }
@@ -158,7 +162,7 @@ impl Sheet {
         if self.price_of(slot).is_none() {
             return Err(Refusal::SlotClosed);
         }
-        self.put_price(slot, None);
+        self.slots[slot] = None;
         Ok(())
     }
 
@@ -179,61 +183,34 @@ impl Sheet {
     }
 
     // What will undo an edit, asked before it is made.
+    #[tactic(auto, using(crate::proofs::Tables::put_back))]
     pub fn undo_of(&self, edit: Edit) -> Undo
         ensures { refusal_of edit (contents self.now) ≡ None → undone result (change edit (contents self.now)) ≡ contents self.now }
     {
         match edit {
-            Edit::Enter(row, _, _) => self.undo_row(row),
-            Edit::Withdraw(row) => self.undo_row(row),
-            Edit::Allow(row, _) => self.undo_row(row),
-            Edit::Price(slot, _) => self.undo_slot(slot),
-            Edit::Close(slot) => self.undo_slot(slot),
+            Edit::Enter(row, _, _) | Edit::Withdraw(row) | Edit::Allow(row, _) => {
+                Undo::Row(row, self.case(row))
+            }
+            Edit::Price(slot, _) | Edit::Close(slot) => Undo::Slot(slot, self.price_of(slot)),
         }
     }
 
     // Puts back what an undo entry holds.
+    #[tactic(auto, using(crate::proofs::Tables::table_written))]
     pub fn undo(&mut self, back: Undo)
         ensures { contents self.new ≡ undone back (contents self.old) }
     {
         match back {
             Undo::Row(row, case) => {
                 if row <= 15 {
-                    self.put_case(row, case);
+                    self.rows[row] = case;
                 }
             }
             Undo::Slot(slot, price) => {
                 if slot <= 63 {
-                    self.put_price(slot, price);
+                    self.slots[slot] = price;
                 }
             }
         }
-    }
-
-    fn undo_row(&self, row: usize) -> Undo
-        ensures { row ≤ 15 → (e : Maybe Entry) → undone result (with_row (contents self.now) row e) ≡ contents self.now }
-    {
-        Undo::Row(row, self.case(row))
-    }
-
-    fn undo_slot(&self, slot: usize) -> Undo
-        ensures { slot ≤ 63 → (p : Maybe ℤ) → undone result (with_slot (contents self.now) slot p) ≡ contents self.now }
-    {
-        Undo::Slot(slot, self.price_of(slot))
-    }
-
-    fn put_case(&mut self, row: usize, case: Option<Case>)
-        requires { row < 16 }
-        ensures left { contents self.new ≡ with_row (contents self.old) row (option_map entry case) }
-        ensures there { case_in (contents self.new) row ≡ option_map entry case }
-    {
-        self.rows[row] = case;
-    }
-
-    fn put_price(&mut self, slot: usize, price: Option<SlotPrice>)
-        requires { slot < 64 }
-        ensures left { contents self.new ≡ with_slot (contents self.old) slot (option_map amount price) }
-        ensures there { price_in (contents self.new) slot ≡ option_map amount price }
-    {
-        self.slots[slot] = price;
     }
 }
