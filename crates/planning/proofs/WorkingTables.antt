@@ -45,11 +45,15 @@ open_set opened n w ds h k i s t = ⊎_elim
     (λ l. h i s (sym (ap (λ xs. has (get_or xs i 0) s) (set_past ds n w l)) ∙ t))
     (cases_lt n (length ds))
 
-pub and_left : (a b s : ℕ) → has (bit_and a b) s ≡ true → has a s ≡ true
+and_left : (a b s : ℕ) → has (bit_and a b) s ≡ true → has a s ≡ true
 and_left a b s t = (and_parts (has a s) (has b s) (sym (has_and a b s) ∙ t)).0
 
 pub and_right : (a b s : ℕ) → has (bit_and a b) s ≡ true → has b s ≡ true
 and_right a b s t = (and_parts (has a s) (has b s) (sym (has_and a b s) ∙ t)).1
+
+-- nor does one set narrowed to what it has in common with a word
+pub open_narrowed : (opened i word : ℕ) (ds : List ℕ) → Open opened ds → Open opened (set ds i (bit_and (get_or ds i 0) word))
+open_narrowed opened i word ds h = open_set opened i (bit_and (get_or ds i 0) word) ds h (λ s t. h i s (and_left (get_or ds i 0) word s t))
 
 -- one need more
 pub needed_more : (n a : ℕ) (ns : List ℕ) → n < length ns → Needed n ns → (1 ≤ a) × (a ≤ 20000) → Needed (n + 1) (set ns n a)

@@ -4,10 +4,12 @@
 ghost use Rattle.planning.specs.Plans.{PartPlansAreListed, PlansAreOrdered, PlansListed};
 ghost use Rattle.planning.specs.Pruners.{PilesLawful};
 
+mod charging;
 mod pile;
 mod pruner;
 mod working_sheet;
 
+pub use charging::charge_at;
 pub use pile::Pile;
 pub use pruner::{Pruner, ask};
 pub use working_sheet::WorkingSheet;

@@ -43,6 +43,7 @@ impl WorkingSheet {
     }
 
     // One working set narrowed to a part of it: to what it has in common with a word. The others stay.
+    #[tactic(auto, using(crate::proofs::WorkingTables::open_narrowed))]
     pub fn narrowed(self, case: usize, word: u64) -> WorkingSheet
         ensures sets { result.sets ≡ slice_set self.sets case (bit_and (slice_index self.sets case) word) }
         ensures rows { result.rows ≡ self.rows }
@@ -51,23 +52,7 @@ impl WorkingSheet {
         ensures count { result.count ≡ self.count }
         ensures opened { result.opened ≡ self.opened }
     {
-        let WorkingSheet {
-            count,
-            rows,
-            needs,
-            sets,
-            prices,
-            opened,
-        } = self;
-        let sets = narrow_set(sets, case, word);
-        WorkingSheet {
-            count,
-            rows,
-            needs,
-            sets,
-            prices,
-            opened,
-        }
+        self.with_sets(narrow_set(self.sets, case, word))
     }
 
     // The same cases with other sets, which hold no closed slot.
@@ -154,11 +139,12 @@ impl WorkingSheet {
     }
 }
 
+#[tactic(auto, using(std::proofs::lemmas::List::set_past))]
 fn narrow_set(mut sets: [u64; 16], case: usize, word: u64) -> [u64; 16]
     ensures { result ≡ slice_set sets case (bit_and (slice_index sets case) word) }
 {
     if case < 16 {
-        sets[case] = sets[case] & word;
+        sets[case] &= word;
     }
     sets
 }

@@ -1,4 +1,4 @@
-use Rattle.std.proofs.Common.{◌^◌, ◌<◌, ◌≤◌, [], ◌∷◌, ◌++◌, take, refl, ap, ◌∙◌, arith}
+use Rattle.std.proofs.Common.{◌^◌, ◌<◌, ◌≤◌, [], ◌∷◌, ◌++◌, take, ap, ◌∙◌, arith}
 use lib.Bits.{bit_and, and_le_l}
 use Rattle.std.proofs.lemmas.List.{length-set, take_more_set}
 use Rattle.slot_set.specs.Sets.{has, keep}
@@ -22,17 +22,10 @@ invariant_of-result c =
       usable = open_set w.opened w.count (bit_and c.from.result w.opened) w.sets w.usable (and_right c.from.result w.opened);
     }
 
-pub returns : goal.returns
-returns c =
+pub returns-clause-sets : goal.returns-clause-sets
+returns-clause-sets c =
     let w = c.args.self in
     let small : bit_and c.from.result w.opened < 2 ^ 64 = omega (arith, and_le_l c.from.result w.opened) in
-    record {
-      count = refl;
-      rows = take_more_set w.rows w.count c.args.row (omega arith);
-      needs = take_more_set w.needs w.count c.need.result (omega arith) ∙ ap (λ x. take w.count w.needs ++ (x ∷ [])) c.need.ensures;
-      sets = take_more_set w.sets w.count (bit_and c.from.result w.opened) (omega arith)
-          ∙ ap (λ x. take w.count w.sets ++ (x ∷ [])) (is_keep (has w.opened) c.from.result (bit_and c.from.result w.opened) small (λ s l. has_and c.from.result w.opened s))
-          ∙ ap (λ x. take w.count w.sets ++ (keep (has w.opened) x ∷ [])) (c.from.ensures ∙ c.allowed.ensures);
-      prices = refl;
-      opened = refl;
-    }
+    take_more_set w.sets w.count (bit_and c.from.result w.opened) (omega arith)
+    ∙ ap (λ x. take w.count w.sets ++ (x ∷ [])) (is_keep (has w.opened) c.from.result (bit_and c.from.result w.opened) small (λ s l. has_and c.from.result w.opened s))
+    ∙ ap (λ x. take w.count w.sets ++ (keep (has w.opened) x ∷ [])) (c.from.ensures ∙ c.allowed.ensures)

@@ -1,9 +1,9 @@
-use Rattle.std.proofs.Common.{◌≡◌, ℕ, ◌<◌, ◌++◌, map, length, get_or, take, None, sym, ap, ◌∙◌, arith}
+use Rattle.std.proofs.Common.{◌≡◌, ℕ, ◌<◌, ◌++◌, map, length, get_or, None, sym, ap, ◌∙◌, arith}
 use Rattle.std.specs.Option.{option_map}
-use Rattle.std.proofs.lemmas.List.{get_or-map, length-map, take_all}
+use Rattle.std.proofs.lemmas.List.{get_or-map, length-map}
 use Rattle.slot_set.specs.Sets.{has, keep}
 use Rattle.sheet.specs.Contents.{entry}
-use Rattle.planning.specs.Standing.{Standing, standing_from, placed}
+use Rattle.planning.specs.Standing.{Standing, placed}
 use Rattle.planning.specs.Working.{sets_in}
 use Rattle.planning.proofs.WorkingTables.{standing_more}
 use Rattle.planning.proofs.working_sheet.WorkingSheet.with_rows.Goals as goal
@@ -29,17 +29,3 @@ loop-row-preserved c =
       made.prices ∙ inv.4,
       made.opened ∙ inv.5,
     )
-
-pub returns : goal.returns
-returns c =
-    let E = map (option_map entry) c.args.rows.now in
-    let inv = c.loop-row.invariant in
-    -- all the rows were passed
-    let whole : take c.loop-row.row E ≡ E = take_all c.loop-row.row E (omega (arith, length-map c.args.rows.now (option_map entry))) in
-    record {
-      rows = inv.1 ∙ ap (λ es. map (λ (x : Standing). x.row) (standing_from 0 es)) whole;
-      needs = inv.2 ∙ ap (λ es. map (λ (x : Standing). x.entry.need) (standing_from 0 es)) whole;
-      sets = inv.3 ∙ ap (λ es. map (λ (x : Standing). keep (has c.args.self.opened) x.entry.allowed) (standing_from 0 es)) whole;
-      prices = inv.4;
-      opened = inv.5;
-    }

@@ -1,7 +1,6 @@
 use Rattle.std.proofs.Common.{ℕ, List, map, get_or, ℤ, pos, neg_ℤ, ◌≤ℤ◌, unwrap_or, sym, refl, ap, ◌∙◌, subst, arith}
 use mathlib.Core.List.{map-map}
 use Rattle.std.specs.Option.{option_map}
-use Rattle.slot_set.specs.Sets.{has}
 use Rattle.sheet.specs.Contents.{amount}
 use Rattle.planning.proofs.WorkingTables.{prices_in_range, open_none}
 use Rattle.planning.proofs.working_sheet.ops.without_cases.Goals as goal
@@ -18,9 +17,8 @@ invariant_of-result c =
       usable = open_none c.into-opened.result 16;
     }
 
-pub returns : goal.returns
-returns c = record {
-  count = refl;
-  prices = c.prices_in-prices.ensures ∙ sym (map-map (λ o. unwrap_or o (pos 0)) (option_map amount) c.slots.result.now) ∙ ap (map (λ o. unwrap_or o (pos 0))) c.slots.ensures;
-  opened = λ slot. ap (λ x. has x slot) c.into-opened.ensures ∙ c.open_slots.ensures slot;
-}
+pub returns-clause-prices : goal.returns-clause-prices
+returns-clause-prices c =
+    c.prices_in-prices.ensures
+    ∙ sym (map-map (λ o. unwrap_or o (pos 0)) (option_map amount) c.slots.result.now)
+    ∙ ap (map (λ o. unwrap_or o (pos 0))) c.slots.ensures
