@@ -9,8 +9,7 @@ use lib.Signed.{le_z}
 use Rattle.std.proofs.lemmas.Int.{ints}
 use Rattle.std.proofs.lemmas.Bool.{cond_both}
 use Rattle.slot_set.specs.Sets.{every_slot, from, has, members}
-use Rattle.tariff.specs.Charges.{Charge, LawfulTariff, Within}
-use Rattle.tariff.proofs.Sums.{charge_within, within_more}
+use Rattle.tariff.specs.Charges.{Within}
 use Rattle.pruners.specs.Sum.{least}
 
 -- ---- the least of some charges, one after the other
@@ -54,12 +53,9 @@ members_range word n e = ap (filter (has word)) (ap (range_with_len 0) e ∙ fro
 pub least_in_set : (w : ℕ → ℤ) (word n : ℕ) (r : Option ℤ) → n ≡ 64 → r ≡ reduce lesser (map w (filter (has word) (range_with_len 0 n))) → unwrap_or r (pos 0) ≡ least w (members word)
 least_in_set w word n r e h = ap (λ o. unwrap_or o (pos 0)) h ∙ least_reduced w (filter (has word) (range_with_len 0 n)) ∙ ap (least w) (members_range word n e)
 
--- ---- every charge, and so every least charge, is small
+-- ---- where every charge is small, so is the least
 
 pub least_within : (m : ℕ) (w : ℕ → ℤ) → ((s : ℕ) → Within m (w s)) → (xs : List ℕ) → Within m (least w xs)
 least_within m w h [] = record { low = omega (arith, ints); high = omega (arith, ints) }
 least_within m w h (x ∷ []) = h x
 least_within m w h (x ∷ (y ∷ ys)) = cond_both (le_z (w x) (least w (y ∷ ys))) (w x) (least w (y ∷ ys)) (Within m) (λ _. h x) (λ _. least_within m w h (y ∷ ys))
-
-pub charge_small : (w : Charge) (greatest : ℕ) → LawfulTariff w greatest → (a : ℕ) (p : ℤ) → Within 1000000000000 (w a p)
-charge_small w greatest law a p = within_more greatest 1000000000000 (w a p) law.small (charge_within w greatest law a p)

@@ -3,8 +3,9 @@ use Rattle.std.proofs.Common.{◌≡◌, ℕ, suc, ◌+◌, ◌<◌, List, [], �
 use Rattle.std.proofs.lemmas.List.{get_or-take, length-take-le, take_more}
 use Rattle.std.proofs.lemmas.Int.{ints}
 use Rattle.slot_set.specs.Sets.{members}
-use Rattle.tariff.specs.Charges.{Charge, Within}
+use Rattle.tariff.specs.Charges.{Charge, LawfulTariff, Within}
 use Rattle.tariff.specs.Sums.{sum_all}
+use Rattle.tariff.proofs.Sums.{charge_small}
 use Rattle.planning.specs.Plans.{Given}
 use Rattle.planning.specs.Working.{given, sets_in}
 use Rattle.planning.specs.declared.working_sheet.WorkingSheet.{WorkingSheet}
@@ -43,7 +44,8 @@ total_least w charge ms e h =
     ∙ sym (ap₂ (λ a d. least_in (given w charge) a d) (get_or-take n w.needs i 0 k) (get_or-take n w.sets i 0 k)))
 
 -- each of them is small
-pub each_small : (w : WorkingSheet) (charge : Charge) → ((a : ℕ) (p : ℤ) → Within 1000000000000 (charge a p)) → (ms : List ℤ) → LeastEach w charge ms
+pub each_small : (w : WorkingSheet) (charge : Charge) (greatest : ℕ) → LawfulTariff charge greatest → (ms : List ℤ) → LeastEach w charge ms
     → (i : ℕ) → i < w.count → Within 1000000000000 (get_or ms i (pos 0))
-each_small w charge small ms h i l =
-    subst (Within 1000000000000) (sym (h i l)) (least_within 1000000000000 (λ s. charge (get_or w.needs i 0) (get_or w.prices s (pos 0))) (λ s. small (get_or w.needs i 0) (get_or w.prices s (pos 0))) (members (get_or w.sets i 0)))
+each_small w charge greatest law ms h i l =
+    subst (Within 1000000000000) (sym (h i l))
+    (least_within 1000000000000 (λ s. charge (get_or w.needs i 0) (get_or w.prices s (pos 0))) (λ s. charge_small charge greatest law (get_or w.needs i 0) (get_or w.prices s (pos 0))) (members (get_or w.sets i 0)))

@@ -1,4 +1,4 @@
-ghost use Rattle.std.specs.Prelude.{◌≡◌, ℕ, ◌<◌, ◌≤◌, length, take, drop, ℤ, pos, ◌+ℤ◌, int_le, slice_index, slice_index_or};
+ghost use Rattle.std.specs.Prelude.{◌≡◌, ℕ, ◌<◌, ◌≤◌, length, take, drop, pos, ◌+ℤ◌, int_le, slice_index, slice_index_or};
 ghost use Rattle.slot_set.specs.Sets.{keep};
 ghost use Rattle.tariff.specs.Charges.{Within};
 ghost use Rattle.tariff.specs.Sums.{sum_all};
@@ -6,7 +6,7 @@ ghost use Rattle.planning.specs.Working.{given, sets_in, first_sets, RestKept};
 ghost use Rattle.pruners.specs.Sum.{least_in, sum_strike, sum, LeastEach};
 ghost use Rattle.pruners.specs.SumLaw.{sum_lawful};
 
-use planning::{Pruner, WorkingSheet};
+use planning::{Pruner, WorkingSheet, charge_at};
 use slot_set::{SlotSet, any_empty};
 use tariff::Tariff;
 
@@ -47,8 +47,6 @@ impl Limit {
 struct Charged<'a, T: Tariff> {
     tariff: &'a T,
     work: &'a WorkingSheet,
-    // no charge lies farther than 10^12 from 0
-    ghost small: { (need : ℕ) (price : ℤ) → Within 1000000000000 (T.Tariff.charges tariff.now need price) },
 }
 
 impl<'a, T: Tariff> Charged<'a, T> {
@@ -129,13 +127,11 @@ impl<'a, T: Tariff> Charged<'a, T> {
 
     // What a case is charged in a slot.
     fn charge(&self, case: usize, slot: usize) -> i64
-        requires in_table { case < 16 }
-        requires in_day { slot < 64 }
+        requires { case < 16 }
         ensures small { Within 1000000000000 result }
         ensures charge { let w = self.now.work.now in result ≡ T.Tariff.charges self.now.tariff.now (slice_index w.needs case) (slice_index_or w.prices slot (pos 0)) }
     {
-        self.tariff
-            .charge(self.work.needs[case], self.work.prices[slot])
+        charge_at(self.tariff, &self.work.prices, self.work.needs[case], slot)
     }
 }
 

@@ -11,14 +11,14 @@ pub overflow_sub-limit : goal.overflow_sub-limit
 overflow_sub-limit g c =
     let t = c.args.self.now.tariff.now in
     let w = c.args.self.now.work.now in
-    let m = each_small w (g.T.Tariff.charges t) c.args.self.now.small c.args.leasts.now c.requires.least c.loop-case.case (omega (arith, length-take w.count w.sets)) in
+    let m = each_small w (g.T.Tariff.charges t) g.T.Tariff.greatest (g.met.T.Tariff.lawful t) c.args.leasts.now c.requires.least c.loop-case.case (omega (arith, length-take w.count w.sets)) in
     omega (arith, ints)
 
 pub invariant_of-limit : goal.invariant_of-limit
 invariant_of-limit g c =
     let t = c.args.self.now.tariff.now in
     let w = c.args.self.now.work.now in
-    let m = each_small w (g.T.Tariff.charges t) c.args.self.now.small c.args.leasts.now c.requires.least c.loop-case.case (omega (arith, length-take w.count w.sets)) in
+    let m = each_small w (g.T.Tariff.charges t) g.T.Tariff.greatest (g.met.T.Tariff.lawful t) c.args.leasts.now c.requires.least c.loop-case.case (omega (arith, length-take w.count w.sets)) in
     record { small = record { low = omega (arith, ints); high = omega (arith, ints) } }
 
 pub loop-case-preserved : goal.loop-case-preserved
@@ -27,7 +27,7 @@ loop-case-preserved g c =
     let w = c.args.self.now.work.now in
     let i = c.loop-case.case in
     let inside : i < w.count = omega (arith, length-take w.count w.sets) in
-    let m = each_small w (g.T.Tariff.charges t) c.args.self.now.small c.args.leasts.now c.requires.least i inside in
+    let m = each_small w (g.T.Tariff.charges t) g.T.Tariff.greatest (g.met.T.Tariff.lawful t) c.args.leasts.now c.requires.least i inside in
     let e = c.requires.least i inside in
     struck_more w (g.T.Tariff.charges t) (to_z w64 (of_z w64 c.args.ceiling)) (to_z w64 (of_z w64 c.args.total)) _ i c.into.result c.loop-case.set-items inside (omega arith) c.loop-case.invariant (c.into.ensures ∙ c.affordable.ensures) (omega (arith, ints))
 

@@ -10,4 +10,4 @@ total_of-total-requires-clause-small g c i l =
     let ms = c.leasts-leasts.result in
     let inside : i < w.count = omega (arith, length-take w.count ms) in
     subst (Within 1000000000000) (sym (get_or-take w.count ms i (pos 0) inside))
-    (each_small w (g.T.Tariff.charges c.args.self.now.tariff.now) c.args.self.now.small ms c.leasts-leasts.ensures.least i inside)
+    (each_small w (g.T.Tariff.charges c.args.self.now.tariff.now) g.T.Tariff.greatest (g.met.T.Tariff.lawful c.args.self.now.tariff.now) ms c.leasts-leasts.ensures.least i inside)
