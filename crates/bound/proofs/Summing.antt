@@ -1,7 +1,7 @@
 -- The running sums over the tables are those of the bound. Assumes nothing.
-use Rattle.std.proofs.Common.{true, false, ltb, sym, ◌≡◌, ℕ, zero, suc, ◌<◌, ◌≤◌, List, map, length, get_or, ℤ, pos, ◌+ℤ◌, refl, ap, ◌∙◌, ap₂, add-zero, add-one, arith}
+use Rattle.std.proofs.Common.{true, false, ltb, sym, ◌≡◌, ℕ, zero, suc, ◌+◌, ◌<◌, ◌≤◌, List, drop, map, take, length, get_or, ℤ, pos, ◌+ℤ◌, refl, ap, ◌∙◌, ap₂, add-zero, add-one, arith}
 use Rattle.std.proofs.lemmas.Bool.{ltb-false, ltb-true}
-use Rattle.std.proofs.lemmas.List.{get_or-map}
+use Rattle.std.proofs.lemmas.List.{get_or-drop, get_or-map, get_or-take}
 use Rattle.std.proofs.lemmas.List.Elements.{filter_agree}
 use Rattle.slot_set.specs.Sets.{every_slot, has, members}
 use Rattle.tariff.specs.Charges.{Charge}
@@ -16,6 +16,24 @@ use Rattle.bound.specs.Sorting.{length_sorted}
 sum_same : (f h : ℕ → ℤ) (k : ℕ) → ((j : ℕ) → j < k → f j ≡ h (suc j)) → sum_below f k ≡ sum_to h k
 sum_same f h zero e = refl
 sum_same f h (suc k) e = ap₂ (λ x y. x +ℤ y) (sum_same f h k (λ j l. e j (omega arith))) (e k (omega arith))
+
+below_same : (f h : ℕ → ℤ) (k : ℕ) → ((j : ℕ) → j < k → f j ≡ h j) → sum_below f k ≡ sum_below h k
+below_same f h zero e = refl
+below_same f h (suc k) e = ap₂ (λ x y. x +ℤ y) (below_same f h k (λ j l. e j (omega arith))) (e k (omega arith))
+
+-- the sums over parts of the tables that begin at places a and b
+pub below_part : (charge : Charge) (ns xs : List ℕ) (qs zs : List ℤ) (a b k : ℕ) → ((j : ℕ) → j < k → get_or xs j 0 ≡ get_or ns (j + a) 0) → ((j : ℕ) → j < k → get_or zs j (pos 0) ≡ get_or qs (j + b) (pos 0)) →
+    sum_below (beside charge xs zs 0 0) k ≡ sum_below (beside charge ns qs a b) k
+below_part charge ns xs qs zs a b k e h = below_same (beside charge xs zs 0 0) (beside charge ns qs a b) k (λ j l.
+    ap₂ charge (ap (λ (i : ℕ). get_or xs i 0) (add-zero j) ∙ e j l) (ap (λ (i : ℕ). get_or zs i (pos 0)) (add-zero j) ∙ h j l))
+
+-- a part of a table: n of its entries from place a on
+pub part_at : {A : Type 0} (xs : List A) (d : A) (a n j : ℕ) → j < n → get_or (take n (drop a xs)) j d ≡ get_or xs (j + a) d
+part_at xs d a n j l = get_or-take n (drop a xs) j d l ∙ get_or-drop a xs j d ∙ ap (λ (i : ℕ). get_or xs i d) (omega arith)
+
+-- the whole of a table, from place 0 on
+pub from_start : {A : Type 0} (xs : List A) (d : A) (j : ℕ) → get_or xs j d ≡ get_or xs (j + 0) d
+from_start xs d j = ap (λ (i : ℕ). get_or xs i d) (sym (add-zero j))
 
 pub union_is : (rs : List Row) (word : ℕ) → ((s : ℕ) → has word s ≡ in_some (free_of rs) s) → members word ≡ union rs
 union_is rs word e = filter_agree (has word) (in_some (free_of rs)) e every_slot

@@ -29,9 +29,9 @@ pub(crate) fn figures_of<T: Tariff>(
     let slot_ranks = slot_ranks(&work.prices, slots);
     let needs = needs_by_place(work, &case_ranks);
     let prices = prices_by_place(&work.prices, slots, &slot_ranks);
-    let level = running_sums(tariff, &needs, &prices, 0, 0, n);
-    let lower = running_sums(tariff, &needs, &prices, 1, 0, n);
-    let upper = running_sums(tariff, &needs, &prices, 0, 1, n);
+    let level = running_sums(tariff, &needs[..n], &prices);
+    let lower = running_sums(tariff, &needs[1..=n], &prices);
+    let upper = running_sums(tariff, &needs[..n], &prices[1..]);
     let fixed = sum_of_fixed(tariff, work);
     Figures {
         cases: n,

@@ -8,7 +8,7 @@ ghost use Rattle.bound.specs.Tables.{rows_in};
 use crate::choice::Choice;
 use crate::figures::Figures;
 use crate::free::is_free;
-use crate::running::charge_at;
+use crate::running::charge_of;
 use planning::WorkingSheet;
 use slot_set::SlotSet;
 use tariff::Tariff;
@@ -61,7 +61,7 @@ impl<'a, T: Tariff> Strike<'a, T> {
             figures: self.figures,
             case: self.figures.ranks[case],
             slot: self.figures.slots[slot],
-            charge: charge_at(self.tariff, &self.work.prices, self.work.needs[case], slot),
+            charge: charge_of(self.tariff, self.work.needs[case], self.work.prices[slot]),
         };
         choice.bound() <= self.ceiling
     }

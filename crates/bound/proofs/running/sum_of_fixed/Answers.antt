@@ -1,5 +1,5 @@
-use Rattle.std.proofs.Common.{rules, ◌≡◌, ◌+◌, ◌++◌, [], ◌∷◌, length, take, sym, ap, ◌∙◌, subst, length-append, length-take-le, arith}
-use Rattle.std.proofs.lemmas.Int.{ints}
+use Rattle.std.proofs.Common.{rules, w64, pos, get_or, ◌≡◌, ◌+◌, ◌++◌, [], ◌∷◌, length, take, sym, ap, ◌∙◌, subst, length-append, length-take-le, arith}
+use Rattle.std.proofs.lemmas.Int.{ints, to_z-of_z}
 use Rattle.std.proofs.lemmas.Slice.Zip.{zip_end, zip_turn}
 use Rattle.slot_set.specs.Sets.{has, single, OnlySlot}
 use Rattle.planning.specs.Working.{given as given_in, sets_in}
@@ -17,10 +17,10 @@ loop-set-preserved-in-Some-only g c =
     let next : length (seen ++ (c.in-Some.set, c.in-Some.need) ∷ []) ≡ n + 1 = length-append seen ((c.in-Some.set, c.in-Some.need) ∷ []) in
     let small = c.loop-set.invariant.small in
     let only = subst (OnlySlot c.from.result.word) c.in-Some-only.is c.only.ensures in
-    let z = c.charge_at-sum.result in
+    let z = c.charge_of-sum.result in
     let more = fixed_take given w n _ c.in-Some.set.now c.in-Some.need.now _ _ next read.0 read.1 read.2 c.loop-set.invariant.sum c.in-Some-only.slot z
-    (ap single (sym c.from.ensures) ∙ only.0) only.1 (ap (λ d. has d c.in-Some-only.slot) (sym c.from.ensures) ∙ only.2) c.charge_at-sum.ensures.charge in
-    let little = c.charge_at-sum.ensures.small in
+    (ap single (sym c.from.ensures) ∙ only.0) only.1 (ap (λ d. has d c.in-Some-only.slot) (sym c.from.ensures) ∙ only.2) (c.charge_of-sum.ensures.charge ∙ ap (λ p. g.T.Tariff.charges c.args.tariff.now c.in-Some.need.now p) (to_z-of_z w64 (get_or w.prices c.in-Some-only.slot (pos 0)) (search rules))) in
+    let little = c.charge_of-sum.ensures.small in
     record {
       seen = omega (arith, next, read.0);
       sum = omega (arith, ints, more, read.0);
