@@ -17,4 +17,4 @@ pub use deciding::Decision;
 pub use exploring::explore;
 pub use outcome::Outcome;
 pub use saving::Saved;
-pub use totals::{plan_total, price_of, slot_charge};
+pub use totals::{plan_total, price_of};
