@@ -6,9 +6,9 @@ ghost use Rattle.solve.specs.Solved.{answered, listed};
 
 use crate::answer::{Answer, Best};
 use crate::line::Line;
-use planning::WorkingSheet;
+use planning::{WorkingSheet, charge_at};
 use refusal::Refusal;
-use search::{Outcome, plan_total, slot_charge};
+use search::{Outcome, plan_total};
 use tariff::Tariff;
 
 // The answer to a search that came to this, with the lines of its best plan, if it has one.
@@ -52,7 +52,7 @@ fn write_lines<T: Tariff>(tariff: &T, work: &WorkingSheet, slots: &[usize], plan
         plan[case] = Line {
             row: work.rows[case],
             slot: *slot,
-            charge: slot_charge(tariff, work, work.needs[case], *slot),
+            charge: charge_at(tariff, &work.prices, work.needs[case], *slot),
         };
     }
 }

@@ -14,10 +14,10 @@ loop-case-preserved g c =
     let task = sheet_given w (g.T.Tariff.charges c.args.tariff.now) in
     let k = c.loop-case.case in
     let slot = get_or c.args.slots.now k 0 in
-    let r : SFits w64 c.slot_charge.result = search rules in
-    let charge : to_z w64 (of_z w64 c.slot_charge.result) ≡ at_slot task (get_or task.needs k 0) slot =
-    to_z-of_z w64 c.slot_charge.result r ∙ c.slot_charge.ensures.charge ∙ ap (λ (a : ℕ). at_slot task a slot) (sym (get_or-take w.count w.needs k 0 (omega arith))) in
-    let line : ◌≡◌ {A = Line} (record { row = get_or w.rows k 0; slot = slot; charge = to_z w64 (of_z w64 c.slot_charge.result) }) (line_at task (take w.count w.rows) c.args.slots.now k) =
-    ap (λ (x : ℕ). record { row = x; slot = slot; charge = to_z w64 (of_z w64 c.slot_charge.result) }) (sym (get_or-take w.count w.rows k 0 (omega arith)))
+    let r : SFits w64 c.charge_at.result = search rules in
+    let charge : to_z w64 (of_z w64 c.charge_at.result) ≡ at_slot task (get_or task.needs k 0) slot =
+    to_z-of_z w64 c.charge_at.result r ∙ c.charge_at.ensures.charge ∙ ap (λ (a : ℕ). at_slot task a slot) (sym (get_or-take w.count w.needs k 0 (omega arith))) in
+    let line : ◌≡◌ {A = Line} (record { row = get_or w.rows k 0; slot = slot; charge = to_z w64 (of_z w64 c.charge_at.result) }) (line_at task (take w.count w.rows) c.args.slots.now k) =
+    ap (λ (x : ℕ). record { row = x; slot = slot; charge = to_z w64 (of_z w64 c.charge_at.result) }) (sym (get_or-take w.count w.rows k 0 (omega arith)))
     ∙ ap (λ (z : ℤ). record { row = get_or (take w.count w.rows) k 0; slot = slot; charge = z }) charge in
     line_more task (take w.count w.rows) c.args.slots.now k c.args.plan.now c.loop-case.plan _ (omega arith) c.loop-case.invariant line
