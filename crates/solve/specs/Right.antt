@@ -94,8 +94,11 @@ pub record ListsKept {X Y : Type 0} (o : Option Refusal) (saved saved' : List X)
   pub saved_kept : Untouched o saved saved'
   pub decisions_kept : Untouched o decisions decisions'
 
--- the same three lists are lent
+-- the same three lists are lent, each as long as it was
 pub record SameLists (a b : Lists) : Type 0 where
   pub plan : b.plan.ghost_name ≡ a.plan.ghost_name
   pub saved : b.saved.ghost_name ≡ a.saved.ghost_name
   pub decisions : b.decisions.ghost_name ≡ a.decisions.ghost_name
+  pub plan_places : length b.plan.now ≡ length a.plan.now
+  pub saved_places : length b.saved.now ≡ length a.saved.now
+  pub decision_places : length b.decisions.now ≡ length a.decisions.now

@@ -71,4 +71,4 @@ returns-clause-lists g c =
     let q = request charges prunes c.args.ceiling.now.value c.args.limit (length c.args.lists.now.plan.now) (length c.args.lists.now.saved.now) (length c.args.lists.now.decisions.now) in
     let open' : checked w.count q ≡ None = passed_by (checked w.count q) (c.in_ok-check_opening.ensures charges prunes) in
     let none : opening s q ≡ None = sym (made_opening w s m q) ∙ open' in
-    record { saved_kept = untouched_passed (opening s q) c.args.lists.now.saved.now c.explore.new.saved none; decisions_kept = untouched_passed (opening s q) c.args.lists.now.decisions.now c.explore.new.decisions none }
+    record { saved_kept = untouched_passed (opening s q) c.args.lists.now.saved.now _ none; decisions_kept = untouched_passed (opening s q) c.args.lists.now.decisions.now c.explore.new.decisions none }
