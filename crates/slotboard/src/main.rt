@@ -5,13 +5,13 @@
 mod answer;
 mod fault;
 mod parse;
-mod settled_on_drop;
 mod slots;
 
 use answer::Answer;
 use anyhow::anyhow;
+use board::Board;
+use fault::Fault;
 use parse::parse_line;
-use settled_on_drop::SettledOnDrop;
 use std::fs::File;
 use std::io::{BufRead, BufReader, Write};
 use std::{env, io};
@@ -33,12 +33,26 @@ fn run(rt: &HostRuntime) -> anyhow::Result<()> {
 }
 
 fn play<R: BufRead + Drop>(rt: &HostRuntime, script: R) -> io::Result<()> {
-    let mut board = SettledOnDrop::new();
+    let mut board = Board::new();
+    let mut result = Ok(());
     for line in script.split(rt.alloc(), b'\n') {
-        let line = line?;
-        board = play_line(rt, board, without_return(line.as_slice()))?;
+        let line = match line {
+            Ok(line) => line,
+            Err(error) => {
+                result = Err(error);
+                break;
+            }
+        };
+        let (next, printed) = play_line(rt, board, without_return(line.as_slice()));
+        board = next;
+        if printed.is_err() {
+            result = printed;
+            break;
+        }
     }
-    Ok(())
+    // A trial that still stands ends with the script.
+    let _ = board.settle();
+    result
 }
 
 // A line without the carriage return of a script that ends its lines with both.
@@ -49,23 +63,27 @@ fn without_return(line: &[u8]) -> &[u8] {
     }
 }
 
-// Prints a line and what the board answered or what is wrong with the line, and nothing for a line that is passed over.
-fn play_line(rt: &HostRuntime, board: SettledOnDrop, line: &[u8]) -> io::Result<SettledOnDrop> {
+// Performs the call of a line, and prints the line and what the board answered or what is wrong with the line; nothing for a
+// line that is passed over. The board comes back whatever became of the printing, since no board may be let go.
+fn play_line(rt: &HostRuntime, board: Board, line: &[u8]) -> (Board, io::Result<()>) {
     match parse_line(line) {
-        Ok(None) => Ok(board),
+        Ok(None) => (board, Ok(())),
         Ok(Some(call)) => {
-            let (board, reply) = board.perform(call);
-            let answer = Answer { call, reply };
-            print_line(rt, line)?;
-            println!(rt; "{answer}")?;
-            Ok(board)
+            let (next, reply) = board.perform(call);
+            (next, print_answer(rt, line, Answer { call, reply }))
         }
-        Err(fault) => {
-            print_line(rt, line)?;
-            println!(rt; "error: {fault}")?;
-            Ok(board)
-        }
+        Err(fault) => (board, print_fault(rt, line, fault)),
     }
+}
+
+fn print_answer(rt: &HostRuntime, line: &[u8], answer: Answer) -> io::Result<()> {
+    print_line(rt, line)?;
+    println!(rt; "{answer}")
+}
+
+fn print_fault(rt: &HostRuntime, line: &[u8], fault: Fault<'_>) -> io::Result<()> {
+    print_line(rt, line)?;
+    println!(rt; "error: {fault}")
 }
 
 // The line as it was read.
