@@ -1,9 +1,9 @@
 // A board in either phase, one call of its log, and the replay of a whole log.
 ghost use Rattle.std.specs.Prelude.{◌≡◌};
 ghost use Rattle.board.specs.declared.log.Board.TheVariants.{Settled as BoardSettled, Trial as BoardTrial};
-ghost use Rattle.board.specs.Past.{Past.New, Taken.Reverts, called};
+ghost use Rattle.board.specs.Past.{Phase.Outside, Phase.Inside, Past.New, Taken.Reverts, called};
 ghost use Rattle.sheet.specs.Edits.{answer};
-ghost use Rattle.board.specs.Log.{Story, stands, story, ends, told, history, said, outcome, owed, performed};
+ghost use Rattle.board.specs.Log.{Story, stands, story, ends, told, history, said, outcome, owed, owed_in, performed, performed_in};
 ghost use Rattle.board.specs.Views.{settled_view, trial_view};
 
 use crate::calls::Calls;
@@ -67,34 +67,17 @@ impl Board {
         Board::Settled(Settled::new())
     }
 
-    // Performs one call of a past, and answers it.
+    // Performs one call of a past, and answers it. Each phase has a function, so that only what stands is moved: a board is large
+    // where a trial stands.
     #[tactic(auto, using(crate::proofs::Telling::told_stands))]
     pub fn perform(self, call: Call) -> (Board, Reply)
         ensures said { said result.1 ≡ owed (stands self) call }
         ensures left { stands result.0 ≡ performed (stands self) call }
         ensures past { (st : Story) → ends st ≡ stands self → ends (told st call) ≡ stands result.0 }
     {
-        match (self, call) {
-            (mut board, Call::Make(edit)) => {
-                let reply = board.edit(edit).into();
-                (board, reply)
-            }
-            (board, Call::AskCase(row)) => {
-                let reply = Reply::Case(board.case(row));
-                (board, reply)
-            }
-            (board, Call::AskPrice(slot)) => {
-                let reply = Reply::Price(board.price_of(slot));
-                (board, reply)
-            }
-            (Board::Settled(settled), Call::Begin) => (Board::Trial(settled.begin()), Reply::Begun),
-            (Board::Trial(trial), Call::Keep) => (Board::Settled(trial.keep()), Reply::Ended),
-            (Board::Trial(trial), Call::Revert) => (Board::Settled(trial.revert()), Reply::Ended),
-            (Board::Trial(mut trial), Call::TakeBack) => {
-                let reply = trial.take_back().into();
-                (Board::Trial(trial), reply)
-            }
-            (board, _) => (board, Reply::NotTaken),
+        match self {
+            Board::Settled(settled) => perform_settled(settled, call),
+            Board::Trial(trial) => perform_trial(trial, call),
         }
     }
 
@@ -116,6 +99,36 @@ impl Board {
             .iter()
             .fold(Board::new(), |board, call| board.perform(*call).0)
     }
+}
+
+fn perform_settled(mut settled: Settled, call: Call) -> (Board, Reply)
+    ensures said { said result.1 ≡ owed_in Outside (settled_view settled) call }
+    ensures left { stands result.0 ≡ performed_in Outside (settled_view settled) call }
+{
+    let reply = match call {
+        Call::Make(edit) => settled.edit(edit).into(),
+        Call::AskCase(row) => Reply::Case(settled.case(row)),
+        Call::AskPrice(slot) => Reply::Price(settled.price_of(slot)),
+        Call::Begin => return (Board::Trial(settled.begin()), Reply::Begun),
+        Call::Keep | Call::Revert | Call::TakeBack => Reply::NotTaken,
+    };
+    (Board::Settled(settled), reply)
+}
+
+fn perform_trial(mut trial: Trial, call: Call) -> (Board, Reply)
+    ensures said { said result.1 ≡ owed_in Inside (trial_view trial) call }
+    ensures left { stands result.0 ≡ performed_in Inside (trial_view trial) call }
+{
+    let reply = match call {
+        Call::Make(edit) => trial.edit(edit).into(),
+        Call::AskCase(row) => Reply::Case(trial.case(row)),
+        Call::AskPrice(slot) => Reply::Price(trial.price_of(slot)),
+        Call::TakeBack => trial.take_back().into(),
+        Call::Begin => Reply::NotTaken,
+        Call::Keep => return (Board::Settled(trial.keep()), Reply::Ended),
+        Call::Revert => return (Board::Settled(trial.revert()), Reply::Ended),
+    };
+    (Board::Trial(trial), reply)
 }
 
 impl Calls for Board {
