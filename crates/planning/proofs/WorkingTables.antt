@@ -1,5 +1,5 @@
 -- The tables that a working sheet is made of. Assumes nothing.
-use Rattle.std.proofs.Common.{◌≡◌, ap₂, ◌-◌, ℕ, zero, suc, ◌+◌, ◌<◌, ◌≤◌, true, List, [], ◌∷◌, ◌++◌, map, length, get_or, take, set, replicate, ℤ, pos, neg_ℤ, ◌≤ℤ◌, Some, None, Option, unwrap_or, sym, refl, ap, ◌∙◌, ⊎_elim, add-zero, add-suc, suc-add, zero-add, arith}
+use Rattle.std.proofs.Common.{◌≡◌, ℕ, zero, suc, ◌+◌, ◌<◌, ◌≤◌, true, List, [], ◌∷◌, ◌++◌, map, length, get_or, take, set, replicate, ℤ, pos, neg_ℤ, ◌≤ℤ◌, Some, None, Option, unwrap_or, sym, refl, ap, ◌∙◌, ⊎_elim, add-zero, add-suc, suc-add, zero-add, arith}
 use lib.Bits.{bit_and}
 use Rattle.std.specs.Option.{option_map}
 use Rattle.std.proofs.lemmas.List.{get_or-set_same, get_or-set_other, set_past, take_more, length-take-le, map-append}
@@ -78,12 +78,3 @@ standing_more f es i o h e =
     ap (λ xs. map f (standing_from 0 xs)) (take_more es i None h ∙ ap (λ x. take i es ++ (x ∷ [])) e)
     ∙ ap (map f) (standing_push 0 (take i es) o ∙ ap (λ k. standing_from 0 (take i es) ++ placed k o) size)
     ∙ map-append f (standing_from 0 (take i es)) (placed i o)
-
--- a list that has at each place what f makes of another's
-pub all_mapped : {X Y : Type 0} (f : X → Y) (xs : List X) (ys : List Y) (n : ℕ) → length xs ≡ n → length ys ≡ n
-    → ((i : ℕ) (d : X) (e : Y) → i < n → get_or ys i e ≡ f (get_or xs i d)) → ys ≡ map f xs
-all_mapped f [] [] n h k same = refl
-all_mapped f [] (y ∷ ys) n h k same = absurd (omega arith)
-all_mapped f (x ∷ xs) [] n h k same = absurd (omega arith)
-all_mapped f (x ∷ xs) (y ∷ ys) n h k same =
-    ap₂ (λ z zs. z ∷ zs) (same 0 x y (omega arith)) (all_mapped f xs ys (n - 1) (omega arith) (omega arith) (λ i d e l. same (suc i) d e (omega arith)))

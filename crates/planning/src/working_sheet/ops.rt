@@ -171,7 +171,11 @@ fn without_cases(sheet: &Sheet) -> WorkingSheet
 fn prices_in(slots: &[Option<SlotPrice>; 64]) -> [i64; 64]
     ensures { result ≡ map (λ o. unwrap_or (option_map amount o) (pos 0)) slots.now }
 {
-    slots.map(price_or_zero)
+    let mut prices = [0; 64];
+    for (number, slot) in slots.iter().enumerate() {
+        prices[number] = price_or_zero(*slot);
+    }
+    prices
 }
 
 fn price_or_zero(slot: Option<SlotPrice>) -> i64
