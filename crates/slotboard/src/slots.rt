@@ -33,7 +33,10 @@ fn parse_list(list: &str) -> Result<SlotSet, Fault<'_>> {
 
 // One part of a list: a slot, or the first and the last of a range.
 fn parse_range<'a>(list: &'a str, part: &'a str) -> Result<RangeInclusive<usize>, Fault<'a>> {
-    let (first, last) = part.split_once('-').unwrap_or((part, part));
+    let Some((first, last)) = part.split_once('-') else {
+        let slot = parse_slot(list, part)?;
+        return Ok(slot..=slot);
+    };
     let low = parse_slot(list, first)?;
     let high = parse_slot(list, last)?;
     if low > high {
