@@ -1,39 +1,30 @@
 -- The least charge over a set. Assumes nothing.
-use Rattle.std.specs.List.{fold, reduce, range_with_len}
-use Rattle.std.specs.Cmp.{int_ranks}
-use Rattle.std.specs.Ordering.{MatchOrdering, int_cmp, min_by_ordering}
-use Rattle.std.specs.declared.cmp.Ordering.{Ordering}
-use Rattle.std.specs.declared.cmp.Ordering.TheVariants.{Less, Equal, Greater}
-use Rattle.std.proofs.Common.{◌≡◌, ℕ, zero, suc, cond, List, [], ◌∷◌, ℤ, pos, ◌<ℤ◌, Option, unwrap_or, map, filter, refl, ap, ◌∙◌, add-one, arith}
+use denote.Param.Members.{Mut, Called}
+use Rattle.std.specs.Iterator.{ReducesItems}
+use Rattle.std.specs.List.{FoldsTo, fold, reduce, range_with_len}
+use Rattle.std.proofs.Common.{◌≡◌, ℕ, zero, suc, cond, List, [], ◌∷◌, ℤ, pos, Option, None, Some, unwrap_or, map, filter, refl, ap, ◌∙◌, add-one, arith}
 use lib.Signed.{le_z}
 use Rattle.std.proofs.lemmas.Int.{ints}
 use Rattle.std.proofs.lemmas.Bool.{cond_both}
+use Rattle.std.proofs.lemmas.Iterator.{YieldsList}
+use Rattle.std.proofs.lemmas.Iterator.Consumers.{reduce_from_yields_List}
 use Rattle.slot_set.specs.Sets.{every_slot, from, has, members}
 use Rattle.tariff.specs.Charges.{Within}
 use Rattle.pruners.specs.Sum.{least}
 
 -- ---- the least of some charges, one after the other
 
--- the lesser of two charges, as `min` picks it
+-- the lesser of two charges
 abbrev pub lesser : ℤ → ℤ → ℤ
-lesser x y = min_by_ordering (int_cmp x y) x y
-
-lesser_by : (o : Ordering) (x y : ℤ) → MatchOrdering o (x <ℤ y) (x ≡ y) (y <ℤ x) → min_by_ordering o x y ≡ cond (le_z x y) x y
-lesser_by Less x y h = grind (arith, ints)
-lesser_by Equal x y h = grind (arith, ints)
-lesser_by Greater x y h = grind (arith, ints)
-
-lesser_is : (x y : ℤ) → lesser x y ≡ cond (le_z x y) x y
-lesser_is x y = lesser_by (int_cmp x y) x y (int_ranks x y)
+lesser x y = cond (le_z x y) x y
 
 lesser_assoc : (x y z : ℤ) → cond (le_z (cond (le_z x y) x y) z) (cond (le_z x y) x y) z ≡ cond (le_z x (cond (le_z y z) y z)) x (cond (le_z y z) y z)
 lesser_assoc x y z = grind (arith, ints)
 
 fold_least : (w : ℕ → ℤ) (x : ℤ) (s : ℕ) (ss : List ℕ) → fold lesser x (map w (s ∷ ss)) ≡ cond (le_z x (least w (s ∷ ss))) x (least w (s ∷ ss))
-fold_least w x s [] = lesser_is x (w s)
+fold_least w x s [] = refl
 fold_least w x s (t ∷ ts) =
     fold_least w (lesser x (w s)) t ts
-    ∙ ap (λ y. cond (le_z y (least w (t ∷ ts))) y (least w (t ∷ ts))) (lesser_is x (w s))
     ∙ lesser_assoc x (w s) (least w (t ∷ ts))
 
 least_reduced : (w : ℕ → ℤ) (ss : List ℕ) → unwrap_or (reduce lesser (map w ss)) (pos 0) ≡ least w ss
@@ -48,6 +39,18 @@ from_range s (suc n) = ap (λ t. s ∷ range_with_len t n) (add-one s) ∙ ap (�
 members_range : (word n : ℕ) → n ≡ 64 → filter (has word) (range_with_len 0 n) ≡ members word
 unfolding every_slot
 members_range word n e = ap (filter (has word)) (ap (range_with_len 0) e ∙ from_range 0 64)
+
+-- the turns of a `reduce` whose closure gives the lesser of two charges
+turned : {F : Type 0} (g : Mut F (ℤ × (ℤ × Unit {0})) ℤ) → ((f : F) (x y z : ℤ) (f' : F) → Called g f (x, (y, tt)) z f' → z ≡ lesser x y)
+    → (f : F) (x : ℤ) (xs : List ℤ) (f' : F) (y : ℤ) → FoldsTo {P = F × ℤ} (λ p x q. Called g p.0 (p.1, (x, tt)) q.1 q.0) (f, x) xs (f', y) → FoldsTo (λ p z c. c ≡ lesser p z) x xs y
+turned g each f x [] f' y h = ap (λ p. p.1) h
+turned g each f x (z ∷ zs) f' y h = (h.0.1, each f x z h.0.1 h.0.0 h.1, turned g each h.0.0 h.0.1 zs f' y h.2)
+
+-- and what it answers
+pub reduced : {S F : Type 0} {steps : S → Option ℤ → S → Type 0} {all : List ℤ} (g : Mut F (ℤ × (ℤ × Unit {0})) ℤ) → ((f : F) (x y z : ℤ) (f' : F) → Called g f (x, (y, tt)) z f' → z ≡ lesser x y)
+    → (f : F) (s : S) (r : Option ℤ) → ReducesItems steps g s f r → YieldsList steps (λ x. x) s all → r ≡ reduce lesser all
+reduced g each f s None h e = reduce_from_yields_List lesser s None h e
+reduced g each f s (Some y) h e = reduce_from_yields_List lesser s (Some y) (h.0, h.1, h.3, turned g each f h.0 h.1 h.2 y h.4) e
 
 -- of the charges w in the slots of a set
 pub least_in_set : (w : ℕ → ℤ) (word n : ℕ) (r : Option ℤ) → n ≡ 64 → r ≡ reduce lesser (map w (filter (has word) (range_with_len 0 n))) → unwrap_or r (pos 0) ≡ least w (members word)

@@ -1,4 +1,4 @@
-ghost use Rattle.std.specs.Prelude.{◌≡◌, ℕ, ◌<◌, ◌≤◌, length, take, drop, pos, ◌+ℤ◌, int_le, slice_index, slice_index_or};
+ghost use Rattle.std.specs.Prelude.{◌≡◌, ℕ, ◌<◌, ◌≤◌, length, take, drop, pos, ◌+ℤ◌, if◌then◌else◌, int_le, slice_index, slice_index_or};
 ghost use Rattle.slot_set.specs.Sets.{keep};
 ghost use Rattle.tariff.specs.Charges.{Within};
 ghost use Rattle.tariff.specs.Sums.{sum_all};
@@ -113,7 +113,7 @@ impl<'a, T: Tariff> Charged<'a, T> {
         (0..64)
             .filter(|slot| set.contains(*slot))
             .map(|slot| self.charge(case, slot))
-            .min()
+            .reduce(lesser)
             .unwrap_or(0)
     }
 
@@ -133,6 +133,13 @@ impl<'a, T: Tariff> Charged<'a, T> {
     {
         charge_at(self.tariff, &self.work.prices, self.work.needs[case], slot)
     }
+}
+
+// The lesser of two charges.
+fn lesser(a: i64, b: i64) -> i64
+    ensures { result ≡ (if int_le a b then a else b) }
+{
+    a.min(b)
 }
 
 // The sum of some charges.

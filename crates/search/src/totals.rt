@@ -10,6 +10,14 @@ pub fn plan_total<T: Tariff>(tariff: &T, sheet: &WorkingSheet, plan: &[usize; 16
     ensures sum { result ≡ total (given sheet.now (T.Tariff.charges tariff.now)) (take sheet.now.count plan.now) }
     ensures low { negsuc 16000000000000 ≤ℤ result }
 {
+    added_up(tariff, sheet, plan)
+}
+
+// The same, one case after the other.
+fn added_up<T: Tariff>(tariff: &T, sheet: &WorkingSheet, plan: &[usize; 16]) -> i64
+    ensures sum { result ≡ total (given sheet.now (T.Tariff.charges tariff.now)) (take sheet.now.count plan.now) }
+    ensures low { negsuc 16000000000000 ≤ℤ result }
+{
     let mut sum = 0;
     for (need, slot) in sheet.needs().iter().zip(plan) {
         sum += charge_at(tariff, &sheet.prices, *need, *slot);

@@ -8,7 +8,7 @@ use Rattle.refusal.specs.declared.Refusal.TheVariants.{RowEmpty}
 use Rattle.sheet.specs.declared.case.Case.{Case}
 use Rattle.sheet.specs.declared.Sheet.{Sheet}
 use Rattle.sheet.specs.declared.edit.Edit.TheVariants.{Allow}
-use Rattle.sheet.specs.Contents.{Contents, Entry, contents, entry, entry_of, case_in}
+use Rattle.sheet.specs.Contents.{Contents, Entry, contents, entry, case_in}
 use Rattle.sheet.specs.Edits.{refusal, after, answer, check, slots_refusal, allowing}
 use Rattle.sheet.proofs.Tables.{some_mapped, place_read, place_written}
 
@@ -50,10 +50,3 @@ module _ (s : Sheet) (row allowed : ℕ) (d new : Option Case) (low : row ≤ 15
       → IfOk r (λ _. case_in (record { rows = map (option_map entry) (set s.rows row new); prices = (contents s).prices }) row ≡ allowing allowed (case_in (contents s) row))
   done_alike (Ok x) k = place_written entry s.rows 15 row new low h ∙ k ∙ ap (allowing allowed) (sym in_row)
   done_alike (Err x) k = tt
-
--- the change of a case, as that of the row that holds it
-pub in_place : (r : Result (Unit {0}) Refusal) (allowed : ℕ) (old new : Case) (o : Option Case) → o ≡ Some old
-    → MatchResult r (λ _. entry new ≡ entry_of (entry old).need allowed) (λ _. new ≡ old)
-    → MatchResult r (λ _. option_map entry (Some new) ≡ allowing allowed (option_map entry o)) (λ _. Some new ≡ o)
-in_place (Ok x) allowed old new o e k = ap Some k ∙ ap (λ p. allowing allowed (option_map entry p)) (sym e)
-in_place (Err x) allowed old new o e k = ap Some k ∙ sym e

@@ -73,7 +73,13 @@ impl Sheet {
     pub fn open_slots(&self) -> SlotSet
         ensures { (slot : ℕ) → has result.word slot ≡ is_open (contents self.now) slot }
     {
-        SlotSet::from(u64::MAX).filter(|slot| self.price_of(slot).is_some())
+        SlotSet::from(u64::MAX).filter(|slot| self.is_open(slot))
+    }
+
+    fn is_open(&self, slot: usize) -> bool
+        ensures { result ≡ is_open (contents self.now) slot }
+    {
+        self.price_of(slot).is_some()
     }
 
     // The usable set of the case in a row: its allowed set without the closed slots. It may be empty.
@@ -128,10 +134,7 @@ impl Sheet {
         if row > 15 {
             return Err(Refusal::RowRange);
         }
-        let Some(case) = &mut self.rows[row] else {
-            return Err(Refusal::RowEmpty);
-        };
-        case.allow(allowed)
+        allow_in(&mut self.rows[row], allowed)
     }
 
     // Opens a slot, or changes its price.
@@ -213,4 +216,15 @@ impl Sheet {
             }
         }
     }
+}
+
+// Replaces the allowed set of the case in one row, where it stands.
+fn allow_in(row: &mut Option<Case>, allowed: u64) -> Result<(), Refusal>
+    ensures said { result ≡ answer (check (not (is_some row.old)) RowEmpty (slots_refusal allowed)) }
+    ensures left { MatchResult result (λ _. option_map entry row.new ≡ allowing allowed (option_map entry row.old)) (λ _. row.new ≡ row.old) }
+{
+    let Some(case) = row else {
+        return Err(Refusal::RowEmpty);
+    };
+    case.allow(allowed)
 }

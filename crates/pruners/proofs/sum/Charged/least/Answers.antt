@@ -2,12 +2,12 @@ use Rattle.std.proofs.Common.{ℕ, get_or, ℤ, pos, arith, rules, refl, ◌∙�
 use borrow.Author.Tests.{tests}
 use Rattle.std.proofs.lemmas.Int.{to_z-of_z}
 use Rattle.std.proofs.lemmas.Iterator.{YieldsList-from_range, YieldsList-from_map}
-use Rattle.std.proofs.lemmas.Iterator.Consumers.{YieldsList-at, YieldsList-from_filter, reduce_from_yields_List}
+use Rattle.std.proofs.lemmas.Iterator.Consumers.{YieldsList-at, YieldsList-from_filter}
 use Rattle.slot_set.specs.Sets.{has}
-use Rattle.pruners.proofs.Least.{least_in_set, lesser}
+use Rattle.pruners.proofs.Least.{least_in_set, reduced}
 use Rattle.pruners.proofs.sum.Charged.least.Goals as goal
 
--- the chain gives the charges in the slots of the set, and what `min` answers is the least of them
+-- the chain gives the charges in the slots of the set, and what `reduce` answers is the least of them
 pub returns : goal.returns
 returns g c =
     let w = c.args.self.now.work.now in
@@ -15,8 +15,8 @@ returns g c =
     let set = get_or w.sets c.args.case 0 in
     to_z-of_z w64 c.unwrap_or.result (search rules)
     ∙ c.unwrap_or.ensures
-    ∙ least_in_set charge set 64 c.min.result refl
-    (reduce_from_yields_List lesser _ _ c.min.ensures.ran
+    ∙ least_in_set charge set 64 c.reduce.result refl
+    (reduced _ (λ f x y z f' k. search (rules, tests)) _ _ _ c.reduce.ensures.ran
     (YieldsList-from_map _ charge
     (YieldsList-at c.map.ensures.source
     (YieldsList-from_filter _ (has set) (YieldsList-from_range 0 64 64 c.filter.ensures.source (omega arith)) c.filter.ensures.closure (λ s b f k. search (rules, tests))))

@@ -5,7 +5,7 @@ use Rattle.std.proofs.lemmas.Slice.Zip.{zip_turn}
 use Rattle.planning.specs.Plans.{at_slot, sum_of}
 use Rattle.planning.specs.Working.{given as sheet_given}
 use Rattle.search.proofs.Sums.{sum_more}
-use Rattle.search.proofs.totals.plan_total.Goals as goal
+use Rattle.search.proofs.totals.added_up.Goals as goal
 
 pub overflow_add-sum : goal.overflow_add-sum
 overflow_add-sum g c =

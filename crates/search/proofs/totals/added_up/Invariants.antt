@@ -1,7 +1,7 @@
 use Rattle.std.proofs.Common.{◌≡◌, ◌*◌, length, take, pos, neg_ℤ, ◌≤ℤ◌}
 use Rattle.planning.specs.Plans.{sum_of, at_slot}
 use Rattle.planning.specs.Working.{given as sheet_given}
-use Rattle.search.proofs.totals.plan_total.Given as goal
+use Rattle.search.proofs.totals.added_up.Given as goal
 
 -- the charges of the cases passed so far
 abbrev pub invariant-loop-need : goal.invariant-loop-need
